@@ -232,3 +232,73 @@ impl Plain {
         }
     }
 }
+
+#[cfg(test)]
+mod tests {
+    use super::*;
+    use sp_base::{Items, Words};
+    use std::process::Abort;
+
+    /// The error number and the first value that the kernel gives, where it does not wait.
+    fn asked(kernel: &mut Plain, alloc: Global, pid: u32, op: Op) -> (u32, u64)
+        requires process { FitsPid kernel.old pid op }
+        requires built { IsTrue (is_built_op op) }
+    {
+        let ins = Ins::Given(Items::none(alloc));
+        match kernel.act(Pid(pid), &op, &ins) {
+            Ok(Some(outcome)) => (outcome.err, outcome.ret0),
+            _ => (u32::MAX, u64::MAX),
+        }
+    }
+
+    fn live(kernel: &Plain, rt: &impl Abort, pid: u32)
+        ensures { IsSome (at kernel.now.processes pid) }
+    {
+        assert!(rt; kernel.is_live(Pid(pid)), "process {pid} is live");
+    }
+
+    #[test]
+    fn first_calls(rt: HostRuntime) {
+        let Ok(mut kernel) = Plain::fresh(rt.alloc()) else {
+            panic!(rt; "ample memory");
+        };
+        assert_eq!(rt; asked(&mut kernel, rt.alloc(), 0, Op::Attach), (0, 2));
+        live(&kernel, &rt, 2);
+        assert_eq!(rt;
+            asked(&mut kernel, rt.alloc(), 2, Op::Sys(Call::Getpid)),
+            (0, 2)
+        );
+        live(&kernel, &rt, 2);
+        for fd in [0, 3, 127, 128, u64::MAX] {
+            live(&kernel, &rt, 2);
+            let given = asked(&mut kernel, rt.alloc(), 2, Op::Sys(Call::Close { fd }));
+            assert_eq!(rt; given, (9, 0), "close {fd}");
+        }
+        live(&kernel, &rt, 2);
+        let unknown = Call::Unknown {
+            num: 99,
+            words: Words::none(),
+        };
+        assert_eq!(rt;
+            asked(&mut kernel, rt.alloc(), 2, Op::Sys(unknown)),
+            (78, 0)
+        );
+    }
+
+    #[test]
+    fn numbers_are_given_again(rt: HostRuntime) {
+        let Ok(mut kernel) = Plain::fresh(rt.alloc()) else {
+            panic!(rt; "ample memory");
+        };
+        for want in 2..258 {
+            assert!(rt; !kernel.is_full());
+            assert_eq!(rt; asked(&mut kernel, rt.alloc(), 0, Op::Attach), (0, want));
+        }
+        assert!(rt; kernel.is_full());
+        assert_eq!(rt; asked(&mut kernel, rt.alloc(), 0, Op::Attach), (35, 0));
+        live(&kernel, &rt, 100);
+        assert_eq!(rt; asked(&mut kernel, rt.alloc(), 100, Op::Exit), (0, 0));
+        assert!(rt; !kernel.is_live(Pid(100)));
+        assert_eq!(rt; asked(&mut kernel, rt.alloc(), 0, Op::Attach), (0, 100));
+    }
+}
