@@ -1,0 +1,16 @@
+//! Scripts, which say what guests do, and the rows that tell how it went; both as text.
+#![tactic(auto)]
+
+mod fault;
+mod length;
+mod pieces;
+mod row;
+mod script;
+mod words;
+
+pub use fault::{ScriptFault, ScriptKind};
+pub use row::put_row;
+pub use script::{Line, Script, Section};
+
+#[cfg(test)]
+mod tests;

@@ -1,0 +1,9 @@
+pub mod FieldLaws
+pub mod WordLaws
+pub mod WordsLoop
+pub mod HeaderLaws
+pub mod RowLaws
+pub mod StepLaws
+pub mod FaultLaws
+pub mod StreamLaws
+pub mod FeedLaws

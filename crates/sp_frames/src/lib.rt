@@ -1,0 +1,22 @@
+//! Frames: the messages between a server and its clients, as bytes and back.
+//!
+//! `encode` spells a frame, and a `Framer` gives the frames back from a stream of bytes, however it is cut.
+#![tactic(auto)]
+
+mod banner;
+mod fault;
+mod fields;
+mod frame;
+mod framer;
+mod header;
+mod laws;
+mod reading;
+mod rows;
+mod writing;
+
+pub use banner::BANNER;
+pub use fault::FrameFault;
+pub use frame::{Body, Frame};
+pub use framer::Framer;
+pub use laws::{no_prefix, one_fault, one_spelling, one_whole};
+pub use writing::encode;

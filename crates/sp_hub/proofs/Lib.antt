@@ -1,0 +1,11 @@
+pub mod Journals
+pub mod Acts
+pub mod KernelLaws
+pub mod Performs
+pub mod Places
+pub mod Calls
+pub mod Sound
+pub mod Verdicts
+pub mod Steps
+pub mod Machines
+pub mod Replies

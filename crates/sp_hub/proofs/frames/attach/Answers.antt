@@ -1,0 +1,23 @@
+use Rattle.std.proofs.Common.{inl, refl, subst, sym, List, arith}
+use Rattle.std.specs.List.{AllByRecursion}
+use Rattle.sp_frames.specs.declared.frame.Frame.{Frame}
+use Rattle.sp_frames.specs.Grammar.{Fits}
+use Rattle.sp_hub.proofs.Performs.{attach_pid, attached, all_push}
+use Rattle.sp_hub.proofs.frames.attach.Goals as goal
+
+pub overflow_cast-pid : goal.overflow_cast-pid
+overflow_cast-pid c =
+    let does = rw c.none.ensures at (c.in-Done.ensures.done c.in-Done.answer refl) in
+    let below = attach_pid c.args.kernel.now c.act.new.self _ c.in-Done.answer does in
+    omega arith
+
+pub returns-in-Done-clause-step : goal.returns-in-Done-clause-step
+returns-in-Done-clause-step c =
+    let does = rw c.none.ensures at (c.in-Done.ensures.done c.in-Done.answer refl) in
+    let queue = rw (c.in-Some.ensures, c.hello.ensures.frame) at c.with.ensures in
+    inl (attached c.args.kernel.now c.act.new.self c.args.connection.now c.args.frame.now _ c.in-Done.answer c.with.result does queue)
+
+pub returns-in-Done-clause-fit : goal.returns-in-Done-clause-fit
+returns-in-Done-clause-fit c h =
+    let queue = rw c.in-Some.ensures at c.with.ensures in
+    subst (λ (q : List Frame). AllByRecursion Fits q) (sym queue) (all_push Fits c.args.connection.now.queue c.hello.result h c.hello.ensures.fits)

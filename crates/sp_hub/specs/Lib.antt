@@ -1,0 +1,6 @@
+pub mod Connection
+pub mod Verdict
+pub mod Kernel
+pub mod Step
+pub mod Machine
+pub mod Sound

@@ -1,0 +1,66 @@
+-- The server machine: what it answers to an event, and what it is after it.
+use Rattle.std.specs.Prelude.{◌≡◌, ◌⊎◌, ℕ, ◌==◌, nat_lt, List, [], ◌∷◌, ◌++◌, slice_get, slice_set, Option, None, Some, if◌then◌else◌}
+use Rattle.std.specs.List.{list_all, position_from}
+use Rattle.sp_base.specs.declared.names.ConnNo.{ConnNo}
+use Rattle.kern_model.specs.declared.journal.Entry.{Entry}
+use Rattle.sp_hub.specs.declared.connection.Connection.{Connection}
+use Rattle.sp_hub.specs.declared.event.Event.{Event}
+use Rattle.sp_hub.specs.declared.event.Event.TheVariants.{Opened, Frame, Work, Take, Ended}
+use Rattle.sp_hub.specs.declared.event.Reply.{Reply}
+use Rattle.sp_hub.specs.declared.event.Reply.TheVariants as reply
+use Rattle.sp_hub.specs.Connection.{fresh_connection}
+use Rattle.sp_hub.specs.Step.{Step, frame_step, work_step, take_step, end_step}
+
+-- the journal of the kernel, whose state is the one that the journal leaves; and the connections, in the order in which they were opened
+pub record Machine : Type 0 where
+  pub journal : List Entry
+  pub connections : List Connection
+
+-- a machine to which nothing happened yet
+abbrev pub fresh_machine : Machine
+fresh_machine = record { journal = []; connections = [] }
+
+-- what the machine answers, and the machine after it
+abbrev pub Played : Type 0
+Played = Reply × Machine
+
+-- where a connection stands
+abbrev pub place_of : List Connection → ConnNo → Option ℕ
+place_of connections c = position_from (λ x. x.no.0 == c.0) 0 connections
+
+-- the machine after a step of the connection at a place
+abbrev pub after_step : Machine → ℕ → Step → Played
+after_step m place step = (step.reply, record { journal = step.journal; connections = slice_set m.connections place step.connection })
+
+-- a step of the connection at a place, if there is one
+abbrev pub step_of_found : Machine → Reply → (List Entry → Connection → Step) → ℕ → Option Connection → Played
+step_of_found m otherwise step place None = (otherwise, m)
+step_of_found m otherwise step place (Some x) = after_step m place (step m.journal x)
+
+-- a step at a place, if there is one
+abbrev pub step_at : Machine → Reply → (List Entry → Connection → Step) → Option ℕ → Played
+step_at m otherwise step None = (otherwise, m)
+step_at m otherwise step (Some place) = step_of_found m otherwise step place (slice_get m.connections place)
+
+-- a step of one connection; another reply, and no change, where it was never opened
+abbrev pub on_connection : Machine → ConnNo → Reply → (List Entry → Connection → Step) → Played
+on_connection m c otherwise step = step_at m otherwise step (place_of m.connections c)
+
+-- a connection opens, where its number is above every number that was opened before
+abbrev pub opened : Machine → ConnNo → Played
+opened m c =
+    if list_all (λ x. nat_lt x.no.0 c.0) m.connections
+    then (reply.Nothing, record m { connections = m.connections ++ fresh_connection c ∷ [] })
+    else (reply.Closed, m)
+
+-- an event happens
+abbrev pub played : Machine → Event → Played
+played m (Opened c) = opened m c
+played m (Frame c f salt) = on_connection m c reply.Closed (λ journal x. frame_step journal x f)
+played m (Work c r) = on_connection m c reply.Nothing (λ journal x. work_step journal x r)
+played m (Take c) = on_connection m c reply.Closed take_step
+played m (Ended c finish) = on_connection m c reply.Closed end_step
+
+-- the machine answers and goes on as said; or, as the one other way, it wants memory and stays as it was
+abbrev pub PlaysOrStays : Played → Machine → Reply → Machine → Type 0
+PlaysOrStays said old answer new = ((answer, new) ≡ said) ⊎ ((answer ≡ reply.NoMemory) × (new ≡ old))

@@ -1,0 +1,142 @@
+-- What an event on one connection does.
+use Rattle.std.specs.Prelude.{◌≡◌, ◌⊎◌, ℕ, List, [], ◌∷◌, ◌++◌, length, remove, slice_get, Option, None, Some}
+use Rattle.sp_base.specs.declared.names.Answer.{Answer}
+use Rattle.sp_base.specs.declared.names.Pid.{Pid}
+use Rattle.sp_base.specs.declared.names.ReqNo.{ReqNo}
+use Rattle.sp_base.specs.declared.names.SpError.TheVariants.{Malformed}
+use Rattle.sp_base.specs.declared.call.Call.{Call}
+use Rattle.sp_frames.specs.declared.frame.Body.TheVariants.{Hello, Answered}
+use Rattle.sp_frames.specs.declared.frame.Frame.{Frame}
+use Rattle.kern_model.specs.declared.journal.Entry.{Entry}
+use Rattle.kern_model.specs.declared.journal.Who.TheVariants.{Request, End}
+use Rattle.kern_model.specs.declared.operation.Ins.{Ins}
+use Rattle.kern_model.specs.declared.operation.Ins.TheVariants.{Given}
+use Rattle.kern_model.specs.declared.operation.Op.TheVariants as op
+use Rattle.kern_model.specs.declared.outcome.Outcome.{Outcome}
+use Rattle.kern_model.specs.Journal.{state_after, next_entry}
+use Rattle.sp_hub.specs.declared.connection.Condition.{Condition}
+use Rattle.sp_hub.specs.declared.connection.Condition.TheVariants.{Live, Draining, Closed}
+use Rattle.sp_hub.specs.declared.connection.Connection.{Connection}
+use Rattle.sp_hub.specs.declared.connection.OpenCall.{OpenCall}
+use Rattle.sp_hub.specs.declared.event.Reply.{Reply}
+use Rattle.sp_hub.specs.declared.event.Reply.TheVariants as reply
+use Rattle.sp_hub.specs.declared.verdict.Verdict.{Verdict}
+use Rattle.sp_hub.specs.declared.verdict.Verdict.TheVariants as verdict
+use Rattle.sp_hub.specs.Connection.{over, process_in, place_of_call}
+use Rattle.sp_hub.specs.Kernel.{answer_at}
+use Rattle.sp_hub.specs.Verdict.{verdict_of}
+
+-- the reply to an event on a connection, with the journal and the connection after it
+pub record Step : Type 0 where
+  pub reply : Reply
+  pub journal : List Entry
+  pub connection : Connection
+
+-- the reply, and nothing changes
+abbrev pub stays : Reply → List Entry → Connection → Step
+stays answer journal x = record { reply = answer; journal = journal; connection = x }
+
+-- the step is taken as said; or, as the one other way, memory is wanted and everything stays as it was
+abbrev pub StepsOrStays : Step → List Entry → Connection → Reply → List Entry → Connection → Type 0
+StepsOrStays said journal x answer journal' x' = (record { reply = answer; journal = journal'; connection = x' } ≡ said) ⊎ ((answer ≡ reply.NoMemory) × (journal' ≡ journal) × (x' ≡ x))
+
+-- an operation that reads no memory
+abbrev pub nothing_read : Ins
+nothing_read = Given []
+
+-- the process that an attach names
+abbrev pub no_process : Pid
+no_process = record { 0 = 0 }
+
+-- the response of a handshake
+abbrev pub hello : ReqNo → ℕ → Frame
+hello r pid = record { number = r; body = Hello (record { 0 = pid }) }
+
+-- the response of a call
+abbrev pub answered : ReqNo → Answer → Frame
+answered r answer = record { number = r; body = Answered answer }
+
+-- the response of a call that was performed at a place
+abbrev pub response : ReqNo → Outcome → ℕ → Frame
+response r outcome place = answered r (answer_at outcome place)
+
+-- a handshake is performed: the connection speaks for the new process, and its response is queued
+abbrev pub attach_step : List Entry → Connection → Frame → Option Entry → Step
+attach_step journal x f None = stays reply.NotReady journal x
+attach_step journal x f (Some e) = record {
+  reply = reply.Done;
+  journal = journal ++ e ∷ [];
+  connection = record x { condition = Live (record { 0 = e.outcome.ret0 }); last = f.number; queue = x.queue ++ hello f.number e.outcome.ret0 ∷ [] };
+}
+
+-- a call is open from its request on
+abbrev pub open_step : List Entry → Connection → Frame → Call → Step
+open_step journal x f call = record {
+  reply = reply.Task f.number;
+  journal = journal;
+  connection = record x { last = f.number; calls = x.calls ++ record { number = f.number; call = call } ∷ [] };
+}
+
+-- a frame by its verdict; for now every refusal is answered Malformed, and changes nothing
+abbrev pub frame_step_by : Verdict → List Entry → Connection → Frame → Step
+frame_step_by verdict.Closed journal x f = stays reply.Closed journal x
+frame_step_by (verdict.Refused why) journal x f = stays (reply.Refused Malformed) journal x
+frame_step_by verdict.Attach journal x f = attach_step journal x f (next_entry journal no_process (Request x.no f.number) op.Attach nothing_read)
+frame_step_by (verdict.Open call) journal x f = open_step journal x f call
+
+-- a frame comes
+abbrev pub frame_step : List Entry → Connection → Frame → Step
+frame_step journal x f = frame_step_by (verdict_of (state_after journal) x f) journal x f
+
+-- a call is performed: it is open no more, and its response is queued; nothing where the kernel isn't ready
+abbrev pub perform_step : List Entry → Connection → ℕ → OpenCall → Option Entry → Step
+perform_step journal x place t None = stays reply.NotReady journal x
+perform_step journal x place t (Some e) = record {
+  reply = reply.Done;
+  journal = journal ++ e ∷ [];
+  connection = record x { calls = remove x.calls place; queue = x.queue ++ response t.number e.outcome (length journal) ∷ [] };
+}
+
+-- the open call at a place is worked for the process of the connection
+abbrev pub work_call : List Entry → Connection → ℕ → Option OpenCall → Option Pid → Step
+work_call journal x place (Some t) (Some pid) = perform_step journal x place t (next_entry journal pid (Request x.no t.number) (op.Sys t.call) nothing_read)
+work_call journal x place _ _ = stays reply.Nothing journal x
+
+-- the call at a place is worked, where there is one
+abbrev pub work_at : List Entry → Connection → Option ℕ → Step
+work_at journal x None = stays reply.Nothing journal x
+work_at journal x (Some place) = work_call journal x place (slice_get x.calls place) (process_in x.condition)
+
+-- the open call of a number is worked
+abbrev pub work_step : List Entry → Connection → ReqNo → Step
+work_step journal x r = work_at journal x (place_of_call x r)
+
+-- the oldest frame is taken off a queue
+abbrev pub take_from : List Entry → Connection → Condition → List Frame → Step
+take_from journal x Closed queue = stays reply.Closed journal x
+take_from journal x Draining [] = stays reply.Closed journal x
+take_from journal x condition [] = stays reply.Nothing journal x
+take_from journal x condition (f ∷ queue) = record { reply = reply.Out f; journal = journal; connection = record x { queue = queue } }
+
+-- the oldest queued frame is handed out
+abbrev pub take_step : List Entry → Connection → Step
+take_step journal x = take_from journal x x.condition x.queue
+
+-- the journal with one entry more, where there is one
+abbrev pub with_entry : List Entry → Option Entry → List Entry
+with_entry journal None = journal
+with_entry journal (Some e) = journal ++ e ∷ []
+
+-- the journal after the exit of the process that a connection still has
+abbrev pub exit_of : List Entry → Connection → Option Pid → List Entry
+exit_of journal x None = journal
+exit_of journal x (Some pid) = with_entry journal (next_entry journal pid (End x.no) op.Exit nothing_read)
+
+-- a connection that isn't over yet ends: its calls and frames are dropped, and its process exits
+abbrev pub end_by : List Entry → Connection → Condition → Step
+end_by journal x Closed = stays reply.Closed journal x
+end_by journal x condition = record { reply = reply.Nothing; journal = exit_of journal x (process_in condition); connection = over x }
+
+-- the connection ends
+abbrev pub end_step : List Entry → Connection → Step
+end_step journal x = end_by journal x x.condition

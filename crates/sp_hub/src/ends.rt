@@ -1,0 +1,62 @@
+ghost use Rattle.std.specs.Prelude.{◌≡◌, List, IfSome, IsSome, OnOk, OnErr};
+ghost use Rattle.std.specs.List.{AllByRecursion};
+ghost use Rattle.sp_frames.specs.Grammar.{Fits};
+ghost use Rattle.kern_model.specs.declared.journal.Entry.{Entry};
+ghost use Rattle.kern_model.specs.Journal.{state_after};
+ghost use Rattle.kern_model.specs.Table.{at};
+ghost use Rattle.sp_hub.specs.Connection.{process_in};
+ghost use Rattle.sp_hub.specs.Step.{StepsOrStays, take_step, exit_of, end_step};
+
+use crate::connection::{Condition, Connection};
+use crate::event::Reply;
+use crate::kernel::{Acted, Kernel};
+use kern_model::{Ins, Op, Who};
+use sp_base::{Items, NoMemory};
+
+/// Hands out the oldest queued frame.
+pub fn take(connection: &mut Connection) -> Reply
+    ensures { (journal : List Entry) → record { reply = result; journal = journal; connection = connection.new } ≡ take_step journal connection.old }
+{
+    match connection.condition {
+        Condition::Closed => Reply::Closed,
+        condition => match connection.queue.take_first() {
+            Some(frame) => Reply::Out(frame),
+            None => {
+                if condition == Condition::Draining { Reply::Closed } else { Reply::Nothing }
+            }
+        },
+    }
+}
+
+/// Ends the process that a connection still has; on want of memory nothing changes.
+fn exit(kernel: &mut Kernel, connection: &Connection) -> Result<(), NoMemory>
+    requires { IfSome (process_in connection.now.condition) (λ pid. IsSome (at (state_after kernel.old).processes pid.0)) }
+    ensures ok { OnOk result (kernel.new ≡ exit_of kernel.old connection.now (process_in connection.now.condition)) }
+    ensures err { OnErr result (kernel.new ≡ kernel.old) }
+{
+    let Some(pid) = connection.condition.process() else {
+        return Ok(());
+    };
+    let ins = Ins::Given(Items::none(kernel.alloc()));
+    match kernel.act(pid, Who::End(connection.no), Op::Exit, ins) {
+        Acted::Done(_) => Ok(()),
+        Acted::NotReady => Ok(()),
+        Acted::NoMemory => Err(NoMemory),
+    }
+}
+
+/// Ends a connection: its process exits, and its calls and frames are dropped.
+pub fn end(kernel: &mut Kernel, connection: &mut Connection) -> Reply
+    requires live { IfSome (process_in connection.old.condition) (λ pid. IsSome (at (state_after kernel.old).processes pid.0)) }
+    ensures step { StepsOrStays (end_step kernel.old connection.old) kernel.old connection.old result kernel.new connection.new }
+    ensures fit { AllByRecursion Fits connection.old.queue → AllByRecursion Fits connection.new.queue }
+{
+    if connection.condition == Condition::Closed {
+        return Reply::Closed;
+    }
+    if exit(kernel, connection).is_err() {
+        return Reply::NoMemory;
+    }
+    connection.end();
+    Reply::Nothing
+}

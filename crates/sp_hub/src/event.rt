@@ -1,0 +1,49 @@
+use sp_base::{ConnNo, ReqNo, SpError};
+use sp_frames::{Frame, FrameFault};
+
+/// How a connection's input ended.
+#[derive(Clone, Copy, Debug, PartialEq, Eq)]
+pub enum Finish {
+    /// Between two frames.
+    Clean,
+    /// Inside a frame.
+    Inside,
+    /// At bytes that are no frame.
+    Bad(FrameFault),
+}
+
+/// What happens to the server.
+#[derive(Debug, Drop)]
+pub enum Event {
+    /// A client connected.
+    Opened(ConnNo),
+    /// A frame came; the number is the salt for a cookie, where the frame makes one.
+    Frame(ConnNo, Frame, u64),
+    /// Somebody has time to work an open call.
+    Work(ConnNo, ReqNo),
+    /// The connection can send a frame.
+    Take(ConnNo),
+    /// The connection's input ended.
+    Ended(ConnNo, Finish),
+}
+
+/// What the server answers to an event.
+#[derive(Debug, Drop)]
+pub enum Reply {
+    /// The call of this number is open, and can be worked.
+    Task(ReqNo),
+    /// The call waits: the kernel isn't ready for it.
+    NotReady,
+    /// The operation was performed, and its response is queued.
+    Done,
+    /// The oldest queued frame.
+    Out(Frame),
+    /// There was nothing to do, or no more than was asked.
+    Nothing,
+    /// The frame was refused.
+    Refused(SpError),
+    /// The connection takes no such event any more, or was never opened.
+    Closed,
+    /// Memory was refused, and nothing changed.
+    NoMemory,
+}

@@ -1,0 +1,86 @@
+ghost use Rattle.std.specs.Prelude.{◌≡◌};
+ghost use Rattle.std.specs.List.{AllByRecursion};
+ghost use Rattle.sp_frames.specs.Grammar.{Fits};
+ghost use Rattle.kern_model.specs.declared.journal.Who.TheVariants.{Request};
+ghost use Rattle.kern_model.specs.declared.operation.Op.TheVariants as op;
+ghost use Rattle.kern_model.specs.Journal.{next_entry};
+ghost use Rattle.sp_hub.specs.Step.{StepsOrStays, attach_step, open_step, frame_step, hello, no_process, nothing_read};
+
+use crate::connection::{Condition, Connection, OpenCall};
+use crate::event::Reply;
+use crate::kernel::{Acted, Kernel};
+use crate::room::take_room;
+use crate::verdict::{self, Verdict};
+use kern_model::{Ins, Op, Who};
+use sp_base::{Call, Items, Pid, ReqNo, SpError};
+use sp_frames::{Body, Frame};
+
+/// The response of a handshake.
+fn hello(number: ReqNo, pid: Pid) -> Frame
+    ensures frame { result ≡ hello number pid.0 }
+    ensures fits { Fits result }
+{
+    Frame {
+        number,
+        body: Body::Hello { pid },
+    }
+}
+
+/// Performs a handshake: makes the connection's process and queues the response.
+fn attach(kernel: &mut Kernel, connection: &mut Connection, frame: &Frame) -> Reply
+    ensures step { StepsOrStays (attach_step kernel.old connection.old frame.now (next_entry kernel.old no_process (Request connection.old.no frame.now.number) op.Attach nothing_read)) kernel.old connection.old result kernel.new connection.new }
+    ensures fit { AllByRecursion Fits connection.old.queue → AllByRecursion Fits connection.new.queue }
+{
+    let number = frame.number;
+    let alloc = kernel.alloc();
+    let Some(queue) = take_room(alloc, &mut connection.queue) else {
+        return Reply::NoMemory;
+    };
+    let who = Who::Request(connection.no, number);
+    match kernel.act(Pid(0), who, Op::Attach, Ins::Given(Items::none(alloc))) {
+        Acted::Done(answer) => {
+            let pid = Pid(answer.ret0 as u32);
+            connection.condition = Condition::Live(pid);
+            connection.last = number;
+            connection.queue = queue.with(hello(number, pid));
+            Reply::Done
+        }
+        Acted::NotReady => {
+            connection.queue = queue.without();
+            Reply::NotReady
+        }
+        Acted::NoMemory => {
+            connection.queue = queue.without();
+            Reply::NoMemory
+        }
+    }
+}
+
+/// Opens a call.
+fn open(kernel: &mut Kernel, connection: &mut Connection, frame: &Frame, call: Call) -> Reply
+    ensures step { StepsOrStays (open_step kernel.old connection.old frame.now call) kernel.old connection.old result kernel.new connection.new }
+    ensures queue { connection.new.queue ≡ connection.old.queue }
+{
+    let _ = &kernel;
+    let number = frame.number;
+    match connection.calls.push(OpenCall { number, call }) {
+        Ok(()) => {
+            connection.last = number;
+            Reply::Task(number)
+        }
+        Err(_) => Reply::NoMemory,
+    }
+}
+
+/// A frame comes over a connection.
+pub fn frame(kernel: &mut Kernel, connection: &mut Connection, frame: &Frame) -> Reply
+    ensures step { StepsOrStays (frame_step kernel.old connection.old frame.now) kernel.old connection.old result kernel.new connection.new }
+    ensures fit { AllByRecursion Fits connection.old.queue → AllByRecursion Fits connection.new.queue }
+{
+    match verdict::on_frame(kernel, connection, frame) {
+        Verdict::Closed => Reply::Closed,
+        Verdict::Refused(_) => Reply::Refused(SpError::Malformed),
+        Verdict::Attach => attach(kernel, connection, frame),
+        Verdict::Open(call) => open(kernel, connection, frame, call),
+    }
+}

@@ -1,0 +1,217 @@
+ghost use Rattle.std.specs.Prelude.{◌≡◌, ◌≢◌, ◌<◌, [], ◌∷◌, ◌++◌, OnOk, OnErr, nat_lt, IfOk, length, IfSome};
+ghost use Rattle.std.specs.List.{list_all};
+ghost use Rattle.kern_model.specs.Journal.{IsLegal, HasOwnKeys};
+ghost use Rattle.sp_frames.specs.Grammar.{Fits};
+ghost use Rattle.sp_frames.specs.declared.frame.Frame.{Frame};
+ghost use Rattle.sp_hub.specs.Connection.{fresh_connection};
+ghost use Rattle.sp_hub.specs.Machine.{PlaysOrStays, fresh_machine, place_of, on_connection, opened, played};
+ghost use Rattle.sp_hub.specs.Sound.{IsSound};
+ghost use Rattle.sp_hub.specs.Step.{frame_step, work_step, take_step, end_step};
+
+use crate::connection::Connection;
+use crate::ends;
+use crate::event::{Event, Finish, Reply};
+use crate::frames;
+use crate::kernel::Kernel;
+use crate::work;
+use kern_model::Entry;
+use sp_base::{ConnNo, NoMemory, ReqNo};
+use sp_frames::Frame;
+use std::alloc::Global;
+use std::marker::Model;
+
+/// The server's core: the connections of its clients, and the kernel that performs their calls.
+#[derive(Drop)]
+pub struct Hub {
+    alloc: Global,
+    kernel: Kernel,
+    connections: Vec<Connection>,
+}
+
+impl Model for Hub {
+    ghost use Rattle.sp_hub.specs.Machine.{Machine};
+    ghost use Rattle.sp_hub.specs.Sound.{IsSound};
+
+    ghost Value = { Machine };
+
+    ghost view = { λ h. record { journal = h.kernel; connections = h.connections.items } };
+
+    ghost invariant = { λ h. IsSound (record { journal = h.kernel; connections = h.connections.items }) };
+}
+
+/// Where a connection stands.
+fn place_of(connections: &[Connection], no: ConnNo) -> Option<usize>
+    ensures which { result ≡ place_of connections.now no }
+    ensures within { IfSome result (λ place. place < length connections.now) }
+{
+    for (place, connection) in connections.iter().enumerate() {
+        if connection.no.0 == no.0 {
+            return Some(place);
+        }
+    }
+    None
+}
+
+/// Whether a number is above the number of every connection.
+fn is_above(connections: &[Connection], no: ConnNo) -> bool
+    ensures { result ≡ list_all (λ x. nat_lt x.no.0 no.0) connections.now }
+{
+    connections.iter().all(|connection| connection.no.0 < no.0)
+}
+
+/// Adds a connection that was just opened.
+fn add(alloc: Global, connections: &mut Vec<Connection>, no: ConnNo) -> Result<(), NoMemory>
+    ensures ok { OnOk result (connections.new.items ≡ connections.old.items ++ fresh_connection no ∷ []) }
+    ensures err { OnErr result (connections.new.items ≡ connections.old.items) }
+{
+    connections.push(Connection::fresh(alloc, no))?;
+    Ok(())
+}
+
+/// A connection opens.
+fn open_in(alloc: Global, kernel: &Kernel, connections: &mut Vec<Connection>, no: ConnNo) -> Reply
+    requires sound { IsSound (record { journal = kernel.now; connections = connections.old.items }) }
+    ensures plays { PlaysOrStays (opened (record { journal = kernel.now; connections = connections.old.items }) no) (record { journal = kernel.now; connections = connections.old.items }) result (record { journal = kernel.now; connections = connections.new.items }) }
+    ensures sound { IsSound (record { journal = kernel.now; connections = connections.new.items }) }
+{
+    let _ = kernel;
+    if !is_above(connections, no) {
+        return Reply::Closed;
+    }
+    match add(alloc, connections, no) {
+        Ok(()) => Reply::Nothing,
+        Err(NoMemory) => Reply::NoMemory,
+    }
+}
+
+/// A frame comes over a connection.
+fn frame_in(kernel: &mut Kernel, connections: &mut Vec<Connection>, no: ConnNo, frame: &Frame) -> Reply
+    requires sound { IsSound (record { journal = kernel.old; connections = connections.old.items }) }
+    ensures plays { PlaysOrStays (on_connection (record { journal = kernel.old; connections = connections.old.items }) no Reply.Closed (λ journal x. frame_step journal x frame.now)) (record { journal = kernel.old; connections = connections.old.items }) result (record { journal = kernel.new; connections = connections.new.items }) }
+    ensures sound { IsSound (record { journal = kernel.new; connections = connections.new.items }) }
+{
+    let Some(place) = place_of(connections, no) else {
+        return Reply::Closed;
+    };
+    let connection = &mut connections[place];
+    frames::frame(kernel, connection, frame)
+}
+
+/// An open call of a connection is worked.
+fn work_in(kernel: &mut Kernel, connections: &mut Vec<Connection>, no: ConnNo, number: ReqNo) -> Reply
+    requires sound { IsSound (record { journal = kernel.old; connections = connections.old.items }) }
+    ensures plays { PlaysOrStays (on_connection (record { journal = kernel.old; connections = connections.old.items }) no Reply.Nothing (λ journal x. work_step journal x number)) (record { journal = kernel.old; connections = connections.old.items }) result (record { journal = kernel.new; connections = connections.new.items }) }
+    ensures sound { IsSound (record { journal = kernel.new; connections = connections.new.items }) }
+{
+    let Some(place) = place_of(connections, no) else {
+        return Reply::Nothing;
+    };
+    let connection = &mut connections[place];
+    work::work(kernel, connection, number)
+}
+
+/// A connection ends.
+fn end_in(kernel: &mut Kernel, connections: &mut Vec<Connection>, no: ConnNo) -> Reply
+    requires sound { IsSound (record { journal = kernel.old; connections = connections.old.items }) }
+    ensures plays { PlaysOrStays (on_connection (record { journal = kernel.old; connections = connections.old.items }) no Reply.Closed end_step) (record { journal = kernel.old; connections = connections.old.items }) result (record { journal = kernel.new; connections = connections.new.items }) }
+    ensures sound { IsSound (record { journal = kernel.new; connections = connections.new.items }) }
+{
+    let Some(place) = place_of(connections, no) else {
+        return Reply::Closed;
+    };
+    let connection = &mut connections[place];
+    ends::end(kernel, connection)
+}
+
+/// The oldest queued frame of a connection is handed out.
+fn take_in(kernel: &Kernel, connections: &mut Vec<Connection>, no: ConnNo) -> Reply
+    requires sound { IsSound (record { journal = kernel.now; connections = connections.old.items }) }
+    ensures plays { (result, record { journal = kernel.now; connections = connections.new.items }) ≡ on_connection (record { journal = kernel.now; connections = connections.old.items }) no Reply.Closed take_step }
+    ensures sound { IsSound (record { journal = kernel.now; connections = connections.new.items }) }
+{
+    let _ = kernel;
+    let Some(place) = place_of(connections, no) else {
+        return Reply::Closed;
+    };
+    let connection = &mut connections[place];
+    ends::take(connection)
+}
+
+impl Hub {
+    /// A server to which nothing happened.
+    pub fn fresh(alloc: Global) -> Result<Hub, NoMemory>
+        ensures { IfOk result (λ hub. hub ≡ fresh_machine) }
+    {
+        Ok(Hub {
+            alloc,
+            kernel: Kernel::fresh(alloc)?,
+            connections: Vec::new(alloc),
+        })
+    }
+
+    /// All that was performed, in order; an entry's index is its place.
+    pub fn journal(&self) -> &[Entry]
+        ensures journal { result.now ≡ self.now.journal }
+        ensures legal { IsLegal self.now.journal }
+        ensures keys { HasOwnKeys self.now.journal }
+    {
+        let _ = &self.connections;
+        self.kernel.journal()
+    }
+
+    /// A connection opens.
+    pub fn opened(&mut self, no: ConnNo) -> Reply
+        ensures plays { PlaysOrStays (played self.old (Event.Opened no)) self.old result self.new }
+    {
+        open_in(self.alloc, &self.kernel, &mut self.connections, no)
+    }
+
+    /// A frame comes over a connection.
+    pub fn frame(&mut self, no: ConnNo, frame: Frame, salt: u64) -> Reply
+        ensures plays { PlaysOrStays (played self.old (Event.Frame no frame salt)) self.old result self.new }
+        ensures ready { result ≢ Reply.NotReady }
+    {
+        let _ = salt;
+        frame_in(&mut self.kernel, &mut self.connections, no, &frame)
+    }
+
+    /// An open call of a connection is worked.
+    pub fn work(&mut self, no: ConnNo, number: ReqNo) -> Reply
+        ensures plays { PlaysOrStays (played self.old (Event.Work no number)) self.old result self.new }
+        ensures ready { result ≢ Reply.NotReady }
+    {
+        work_in(&mut self.kernel, &mut self.connections, no, number)
+    }
+
+    /// The oldest queued frame of a connection is handed out; this takes no memory.
+    pub fn take(&mut self, no: ConnNo) -> Reply
+        ensures plays { (result, self.new) ≡ played self.old (Event.Take no) }
+        ensures fits { (frame : Frame) → result ≡ Reply.Out frame → Fits frame }
+        ensures memory { result ≢ Reply.NoMemory }
+    {
+        take_in(&self.kernel, &mut self.connections, no)
+    }
+
+    /// The input of a connection ended.
+    pub fn ended(&mut self, no: ConnNo, finish: Finish) -> Reply
+        ensures plays { PlaysOrStays (played self.old (Event.Ended no finish)) self.old result self.new }
+    {
+        let _ = finish;
+        end_in(&mut self.kernel, &mut self.connections, no)
+    }
+
+    /// An event happens.
+    pub fn play(&mut self, event: Event) -> Reply
+        ensures plays { PlaysOrStays (played self.old event) self.old result self.new }
+        ensures ready { result ≢ Reply.NotReady }
+        ensures fits { (frame : Frame) → result ≡ Reply.Out frame → Fits frame }
+    {
+        match event {
+            Event::Opened(no) => self.opened(no),
+            Event::Frame(no, frame, salt) => self.frame(no, frame, salt),
+            Event::Work(no, number) => self.work(no, number),
+            Event::Take(no) => self.take(no),
+            Event::Ended(no, finish) => self.ended(no, finish),
+        }
+    }
+}

@@ -1,0 +1,92 @@
+ghost use Rattle.std.specs.Prelude.{◌≡◌, ◌<◌, length, slice_get, IfSome, IsSome, IsTrue, Some};
+ghost use Rattle.std.specs.List.{AllByRecursion};
+ghost use Rattle.sp_frames.specs.Grammar.{Fits};
+ghost use Rattle.kern_model.specs.Act.{is_built};
+ghost use Rattle.kern_model.specs.Journal.{state_after};
+ghost use Rattle.kern_model.specs.Table.{at};
+ghost use Rattle.sp_hub.specs.Connection.{process_in};
+ghost use Rattle.sp_hub.specs.Step.{StepsOrStays, answered, work_call, work_step};
+
+use crate::connection::{Connection, OpenCall};
+use crate::event::Reply;
+use crate::kernel::{Acted, Kernel};
+use crate::room::take_room;
+use kern_model::{Ins, Op, Who};
+use sp_base::{Answer, Call, Items, Pid, ReqNo};
+use sp_frames::{Body, Frame};
+
+/// The same call; the journal keeps it while the connection still has it.
+fn copy(call: &Call) -> Call
+    requires { IsTrue (is_built call.now) }
+    ensures { result ≡ call.now }
+{
+    match call {
+        Call::Getpid => Call::Getpid,
+        Call::Close { fd } => Call::Close { fd: *fd },
+        Call::Unknown { num, words } => Call::Unknown {
+            num: *num,
+            words: words.copy(),
+        },
+        _ => unreachable!(),
+    }
+}
+
+/// The response of a call.
+fn response(number: ReqNo, answer: Answer) -> Frame
+    ensures frame { result ≡ answered number answer }
+    ensures fits { Fits result }
+{
+    Frame {
+        number,
+        body: Body::Answered(answer),
+    }
+}
+
+/// Performs the open call at a place and queues its response; the room in the queue is taken first.
+fn perform(kernel: &mut Kernel, connection: &mut Connection, place: usize, pid: Pid) -> Reply
+    requires place { place < length connection.old.calls }
+    requires live { IsSome (at (state_after kernel.old).processes pid.0) }
+    requires built { AllByRecursion (λ t. IsTrue (is_built t.call)) connection.old.calls }
+    ensures step { StepsOrStays (work_call kernel.old connection.old place (slice_get connection.old.calls place) (Some pid)) kernel.old connection.old result kernel.new connection.new }
+    ensures fit { AllByRecursion Fits connection.old.queue → AllByRecursion Fits connection.new.queue }
+{
+    let alloc = kernel.alloc();
+    let Some(queue) = take_room(alloc, &mut connection.queue) else {
+        return Reply::NoMemory;
+    };
+    let open = &connection.calls.slice()[place];
+    let number = open.number;
+    let op = Op::Sys(copy(&open.call));
+    let who = Who::Request(connection.no, number);
+    match kernel.act(pid, who, op, Ins::Given(Items::none(alloc))) {
+        Acted::Done(answer) => {
+            connection.calls.take_at(place);
+            connection.queue = queue.with(response(number, answer));
+            Reply::Done
+        }
+        Acted::NotReady => {
+            connection.queue = queue.without();
+            Reply::NotReady
+        }
+        Acted::NoMemory => {
+            connection.queue = queue.without();
+            Reply::NoMemory
+        }
+    }
+}
+
+/// Works an open call, for the process of its connection.
+pub fn work(kernel: &mut Kernel, connection: &mut Connection, number: ReqNo) -> Reply
+    requires live { IfSome (process_in connection.old.condition) (λ pid. IsSome (at (state_after kernel.old).processes pid.0)) }
+    requires built { AllByRecursion (λ t. IsTrue (is_built t.call)) connection.old.calls }
+    ensures step { StepsOrStays (work_step kernel.old connection.old number) kernel.old connection.old result kernel.new connection.new }
+    ensures fit { AllByRecursion Fits connection.old.queue → AllByRecursion Fits connection.new.queue }
+{
+    let Some(place) = connection.place_of_call(number) else {
+        return Reply::Nothing;
+    };
+    let Some(pid) = connection.condition.process() else {
+        return Reply::Nothing;
+    };
+    perform(kernel, connection, place, pid)
+}
