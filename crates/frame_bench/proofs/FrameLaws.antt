@@ -1,10 +1,10 @@
 -- Counting the frames that go through a framer.
-use Rattle.std.proofs.Common.{◌≡◌, ℕ, zero, suc, ◌+◌, ◌-◌, ◌*◌, ◌^◌, ◌<◌, ◌≤◌, min, List, [], ◌∷◌, ◌++◌, length, get_or, refl, sym, ap, subst, ◌∙◌, append_assoc, length-append, arith}
+use Rattle.std.proofs.Common.{◌≡◌, ℕ, zero, suc, ◌+◌, ◌*◌, ◌^◌, ◌<◌, ◌≤◌, List, [], ◌∷◌, ◌++◌, length, get_or, refl, sym, ap, subst, ◌∙◌, append_assoc, length-append, arith}
 use Rattle.std.specs.List.{flat_map, AllByRecursion}
 use Rattle.std.proofs.lemmas.List.{append-nil}
 use Rattle.sp_frames.specs.declared.frame.Frame.{Frame}
 use Rattle.sp_frames.specs.Grammar.{header_of, payload_of, header_bytes, spelling, Fits}
-use Rattle.sp_frames.specs.Stream.{stream_of, IsWhole}
+use Rattle.sp_frames.specs.Stream.{IsWhole}
 use Rattle.sp_frames.specs.Framing.{Held, Follows}
 use Rattle.sp_frames.proofs.HeaderLaws.{header_len}
 use Rattle.sp_frames.proofs.WordLaws.{words_size}
@@ -19,11 +19,10 @@ hands_none held fed handed follows = ([], subst (λ (frames : List Frame). Follo
 pub hands_more : (old mid new : Held) (count next : ℕ) (frame : Frame) → HandsOut old mid count → ((fed : List ℕ) (handed : List Frame) → Follows fed handed mid → Follows fed (handed ++ frame ∷ []) new) → next ≡ counted (count + 1) → HandsOut old new next
 hands_more old mid new count next frame hands follows e fed handed was =
     let so_far = hands fed handed was in
-    let more = so_far.0 in
-    (
+    let more = so_far.0 in (
       more ++ frame ∷ [],
       subst (λ (frames : List Frame). Follows fed frames new) (append_assoc handed more (frame ∷ [])) (follows fed (handed ++ more) so_far.1),
-      e ∙ omega (arith, length-append more (frame ∷ []), so_far.2)
+      e ∙ omega (arith, length-append more (frame ∷ []), so_far.2),
     )
 
 -- one more piece was fed, and the frames that it completed were handed out
@@ -32,14 +31,13 @@ pub fed_more : (bytes rest piece after : List ℕ) (old mid new : Held) (count t
 fed_more bytes rest piece after old mid new count taken next so_far parts follows hands ready e =
     let fed = so_far.0 in
     let handed = so_far.1 in
-    let out = hands (fed ++ piece) handed (follows fed handed so_far.3) in
-    (
+    let out = hands (fed ++ piece) handed (follows fed handed so_far.3) in (
       fed ++ piece,
       handed ++ out.0,
       append_assoc fed piece after ∙ ap (λ (x : List ℕ). fed ++ x) (sym parts) ∙ so_far.2,
       out.1,
       ready,
-      e ∙ omega (arith, length-append handed out.0, so_far.5, out.2)
+      e ∙ omega (arith, length-append handed out.0, so_far.5, out.2),
     )
 
 pub fed_all : (bytes : List ℕ) (held : Held) (count : ℕ) → Fed bytes [] held count → Counts bytes count

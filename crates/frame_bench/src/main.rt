@@ -12,6 +12,7 @@ use std::env;
 use std::process::ExitCode;
 
 const USAGE: u8 = 64;
+
 const FAILED: u8 = 75;
 
 /// The two numbers of the command line, if it is two numbers.

@@ -8,15 +8,15 @@ use Rattle.sp_frames.specs.declared.frame.Body.{Body}
 use Rattle.sp_frames.specs.declared.header.Header.{Header}
 use Rattle.sp_frames.specs.declared.rows.Row.{Row}
 use Rattle.sp_frames.specs.declared.reading.Step.{Step}
-use Rattle.sp_frames.specs.declared.reading.Step.TheVariants.{Whole, Partial, Fault}
+use Rattle.sp_frames.specs.declared.reading.Step.TheVariants.{Partial, Fault}
 use Rattle.sp_frames.specs.Fields.{IsBytes}
-use Rattle.sp_frames.specs.Grammar.{parts_of, payload_of, header_bytes}
-use Rattle.sp_frames.specs.Faults.{HeaderFits, BeginsWith, HasKind, HasWord, HasSize, HasPayload, IsOutside, IsFaultOf, HasFault, NoFault}
-use Rattle.sp_frames.specs.Reading.{header_at, class_in, kind_in, has_size, body_at, row_at, has_kind, row_or, sized, row_of, framed, step_by, step_of}
+use Rattle.sp_frames.specs.Grammar.{parts_of, header_bytes}
+use Rattle.sp_frames.specs.Faults.{HeaderFits, HasKind, HasWord, HasSize, HasPayload, IsOutside, IsFaultOf, HasFault, NoFault}
+use Rattle.sp_frames.specs.Reading.{header_at, has_size, body_at, row_at, has_kind, row_or, sized, row_of, framed, step_by, step_of}
 use Rattle.sp_frames.proofs.FieldLaws.{IsBytes-drop, IsBytes-take}
 use Rattle.sp_frames.proofs.HeaderLaws.{header_len, header_again, header_back, header_below}
 use Rattle.sp_frames.proofs.RowLaws.{row_is, class_in-most, row_for, body_read, payload-made, size-made, word-made, kind-made, kind-read}
-use Rattle.sp_frames.proofs.StepLaws.{behind_header, row_ok, named_is, IsChecked, checked, payload_len}
+use Rattle.sp_frames.proofs.StepLaws.{behind_header, row_ok, named_is, checked, payload_len}
 
 true_or_false : (b : Bool) → (b ≡ true) ⊎ (b ≡ false)
 true_or_false true = inl refl

@@ -1,11 +1,11 @@
 -- What a feed leaves, in words of all bytes fed.
-use Rattle.std.proofs.Common.{◌≡◌, ◌≢◌, ◌⊎◌, inl, inr, ℕ, List, [], ◌∷◌, ◌++◌, Option, Some, None, Result, Ok, Err, IfOk, IfErr, OnOk, refl, sym, ap, subst, ◌∙◌, append_assoc, arith}
-use Rattle.std.specs.List.{flat_map, AllByRecursion}
+use Rattle.std.proofs.Common.{◌≡◌, ◌≢◌, ◌⊎◌, inl, inr, ℕ, List, [], ◌++◌, Option, None, Result, Ok, Err, refl, sym, ap, subst, ◌∙◌, append_assoc, arith}
+use Rattle.std.specs.List.{flat_map}
 use Rattle.sp_frames.specs.declared.fault.FrameFault.{FrameFault}
 use Rattle.sp_frames.specs.declared.fault.FrameFault.TheVariants as fault
 use Rattle.sp_frames.specs.declared.frame.Frame.{Frame}
-use Rattle.sp_frames.specs.Grammar.{spelling, Fits}
-use Rattle.sp_frames.specs.Stream.{stream_of, NoFront, IsWhole}
+use Rattle.sp_frames.specs.Grammar.{spelling}
+use Rattle.sp_frames.specs.Stream.{stream_of, IsWhole}
 use Rattle.sp_frames.specs.Faults.{HasFault, NoFault}
 use Rattle.sp_frames.specs.Framing.{Held, bytes_of, Follows, IsStop, IsFramed}
 use Rattle.sp_frames.specs.declared.reading.Step.TheVariants.{Partial}
@@ -34,8 +34,8 @@ framed old bytes new is was = record { each = is.each was.each; none = is.none; 
 pub follows : (old : Held) (piece : List ℕ) (new : Held) (fed : List ℕ) (handed : List Frame) → Adds old piece new → IsFramed new → Follows fed handed old → Follows (fed ++ piece) handed new
 follows old piece new fed handed adds is was = record {
   whole = ap (λ (x : List ℕ). x ++ piece) (was.whole ∙ stream-append handed old.ready old.rest)
-    ∙ append_assoc (flat_map spelling handed) (bytes_of old) piece
-    ∙ ap (stream_of handed) (sym adds) ∙ sym (stream-append handed new.ready new.rest);
+      ∙ append_assoc (flat_map spelling handed) (bytes_of old) piece
+      ∙ ap (stream_of handed) (sym adds) ∙ sym (stream-append handed new.ready new.rest);
   each = each-append handed new.ready (each-front handed old.ready was.each) is.each;
   none = is.none;
 }
@@ -71,4 +71,4 @@ exact old piece (Err x) new feeds is frames rest e of has =
 -- a feed that was not refused added the piece
 pub added : (old : Held) (piece : List ℕ) (result : Result (Unit {0}) FrameFault) (new : Held) → Feeds None old piece result new → result ≢ Err fault.NoMemory → Adds old piece new
 added old piece (Ok u) new feeds not = feeds.0
-added old piece (Err x) new feeds not = elim feeds [ | inl refused ↦ absurd (not (ap Err refused.0)) | inr taken ↦ taken.0 ]
+added old piece (Err x) new feeds not = elim feeds [ inl refused ↦ absurd (not (ap Err refused.0)) | inr taken ↦ taken.0 ]

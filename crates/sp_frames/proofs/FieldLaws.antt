@@ -1,11 +1,11 @@
 -- Numbers as bytes and back.
-use Rattle.std.proofs.Common.{◌≡◌, ℕ, ◌+◌, ◌^◌, ◌<◌, ◌≤◌, List, [], ◌∷◌, ◌++◌, length, get_or, take, drop, refl, sym, ap, ◌∙◌, subst, arith, inl, inr, append_assoc, length-append}
-use Rattle.std.specs.List.{flat_map, AllByRecursion}
+use Rattle.std.proofs.Common.{◌≡◌, ℕ, ◌+◌, ◌^◌, ◌<◌, ◌≤◌, List, [], ◌∷◌, ◌++◌, length, take, drop, refl, sym, ap, ◌∙◌, arith, inl, inr, append_assoc, length-append}
+use Rattle.std.specs.List.{AllByRecursion}
 use Rattle.std.proofs.lemmas.Bool.{cases_lt}
-use Rattle.std.proofs.lemmas.List.{append-nil, get_or-drop, get_or-take, get_or_past, length-take, length-drop, drop-drop, take_at, drop_at, take-append-drop}
+use Rattle.std.proofs.lemmas.List.{get_or-drop, get_or-take, get_or_past, length-take, length-drop, drop-drop, take_at, drop_at, take-append-drop}
 use Rattle.std.proofs.lemmas.Nat.{le_bytes_2, le_bytes_4, le_bytes_8, from_le_bytes-to_le_bytes_2, from_le_bytes-to_le_bytes_4, from_le_bytes-to_le_bytes_8}
-use Rattle.sp_frames.specs.Fields.{le16, le32, le64, of16, of32, of64, IsBytes, Number, n16, n32, n64, number_bytes, NumberFits, front_bytes}
-use Rattle.sp_frames.specs.Reading.{front_at, front_end, width}
+use Rattle.sp_frames.specs.Fields.{le16, le32, le64, of16, of32, of64, IsBytes, Number, n16, n32, n64, NumberFits, front_bytes}
+use Rattle.sp_frames.specs.Reading.{front_at, front_end}
 
 pub IsBytes-drop : (n : ℕ) (bytes : List ℕ) → IsBytes bytes → IsBytes (drop n bytes)
 IsBytes-drop n bytes h i = rw get_or-drop (h (n + i))
@@ -55,8 +55,7 @@ field64 = record {
 field_again : {size limit : ℕ} {le : ℕ → List ℕ} {of : List ℕ → ℕ} → IsField size limit le of → (n at : ℕ) (bytes rest : List ℕ) → n < limit → drop at bytes ≡ le n ++ rest
     → (of (take size (drop at bytes)) ≡ n) × (drop (at + size) bytes ≡ rest)
 field_again {size} {limit} {le} {of} field n at bytes rest lt e =
-    let front : take size (drop at bytes) ≡ le n = ap (take size) e ∙ take_at (le n) rest size (field.len n) in
-    (
+    let front : take size (drop at bytes) ≡ le n = ap (take size) e ∙ take_at (le n) rest size (field.len n) in (
       ap of front ∙ field.again n lt,
       sym (drop-drop size at bytes) ∙ ap (drop size) e ∙ drop_at (le n) rest size (field.len n),
     )

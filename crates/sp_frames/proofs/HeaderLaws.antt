@@ -1,9 +1,8 @@
 -- A header as bytes and back.
-use Rattle.std.proofs.Common.{◌≡◌, ℕ, ◌+◌, ◌^◌, ◌<◌, ◌≤◌, List, [], ◌∷◌, ◌++◌, length, take, drop, refl, sym, ap, ◌∙◌, arith, length-append}
-use Rattle.std.specs.List.{flat_map, AllByRecursion}
+use Rattle.std.proofs.Common.{◌≡◌, ℕ, ◌≤◌, List, [], ◌∷◌, ◌++◌, length, drop, sym, ap, ◌∙◌, arith}
 use Rattle.std.proofs.lemmas.List.{append-nil}
 use Rattle.sp_frames.specs.declared.header.Header.{Header}
-use Rattle.sp_frames.specs.Fields.{le16, le32, le64, IsBytes, Number, n16, n32, n64, number_bytes, NumberFits, front_bytes}
+use Rattle.sp_frames.specs.Fields.{le16, le32, le64, IsBytes, Number, n16, n32, n64, front_bytes}
 use Rattle.sp_frames.specs.Grammar.{header_bytes}
 use Rattle.sp_frames.specs.Faults.{HeaderFits}
 use Rattle.sp_frames.specs.Reading.{front_at, header_from, header_front, header_at}

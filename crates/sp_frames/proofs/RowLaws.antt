@@ -1,15 +1,15 @@
 -- What a row's class, type, word and payload say, in both directions.
-use Rattle.std.proofs.Common.{◌≡◌, ◌⊎◌, inl, inr, zero, suc, ℕ, ◌*◌, ◌/◌, ◌^◌, ◌<◌, ◌≤◌, ◌==◌, ◌&&◌, ◌||◌, Bool, true, false, cond, List, [], ◌∷◌, ◌++◌, length, take, drop, Option, Some, None, option_map, find, refl, sym, ap, ◌∙◌, subst, arith, replicate}
-use Rattle.std.specs.List.{flat_map, list_any, AllByRecursion}
+use Rattle.std.proofs.Common.{◌≡◌, ◌⊎◌, inl, inr, zero, suc, ℕ, ◌*◌, ◌/◌, ◌^◌, ◌<◌, ◌≤◌, ◌==◌, ◌&&◌, ◌||◌, Bool, true, false, cond, List, [], ◌∷◌, ◌++◌, length, Option, Some, None, option_map, find, refl, sym, ap, ◌∙◌, subst, arith, replicate}
+use Rattle.std.specs.List.{flat_map, list_any}
 use Rattle.std.proofs.lemmas.Bool.Decides.{nat_tests}
 use Rattle.std.proofs.lemmas.List.{append-nil, length-replicate}
 use Rattle.sp_frames.specs.declared.frame.Body.{Body}
 use Rattle.sp_frames.specs.declared.frame.Body.TheVariants as body
 use Rattle.sp_frames.specs.declared.rows.Row.{Row}
 use Rattle.sp_frames.specs.declared.rows.Row.TheVariants as row
-use Rattle.sp_frames.specs.Fields.{le32, le64, of32, of64, IsBytes, Number, n16, n32, n64, NumberFits, front_bytes}
-use Rattle.sp_frames.specs.Grammar.{parts_of, payload_of, BodyFits, RowFits}
-use Rattle.sp_frames.specs.Faults.{IsOfKind, HasKind, HasWord, HasSize, HasPayload}
+use Rattle.sp_frames.specs.Fields.{le64, IsBytes, Number, n32, n64, front_bytes}
+use Rattle.sp_frames.specs.Grammar.{parts_of, payload_of, BodyFits}
+use Rattle.sp_frames.specs.Faults.{HasKind, HasWord, HasSize, HasPayload}
 use Rattle.sp_frames.specs.Reading.{front_at, front_end, nth, rows, class_in, kind_in, has_word, has_size, front_in, words_at, body_from, body_at, is_of, row_at, has_kind}
 use Rattle.sp_frames.proofs.FieldLaws.{front_len, front_again, front_below, front_whole}
 use Rattle.sp_frames.proofs.WordLaws.{words_len, words_back, words_below, words_size, words_again, each_below, all_below}
@@ -270,7 +270,7 @@ word-made c k w r lt e = let is = size-made c k w (a_size r) r lt e (a_size-fits
 some_passes : {X : Type 0} (p : X → Bool) (xs : List X) → list_any p xs ≡ true → (x : X) × (p x ≡ true)
 some_passes p [] e = absurd cc
 some_passes p (x ∷ xs) e =
-    elim (either (p x) (list_any p xs) e) [ | inl here ↦ (x, here) | inr later ↦ some_passes p xs later ]
+    elim (either (p x) (list_any p xs) e) [ inl here ↦ (x, here) | inr later ↦ some_passes p xs later ]
 
 -- a type that is found is a body's
 pub kind-made : (c k : ℕ) → has_kind c k ≡ true → HasKind c k

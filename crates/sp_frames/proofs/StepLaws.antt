@@ -1,23 +1,23 @@
 -- What is read from the front of bytes is spelled there, and what is spelled is read.
-use Rattle.std.proofs.Common.{◌≡◌, ◌⊎◌, inl, inr, ℕ, ◌+◌, ◌-◌, ◌^◌, ◌<◌, ◌≤◌, Bool, true, false, cond, ltb, List, ◌++◌, length, take, drop, Option, Some, None, Result, Ok, Err, refl, sym, ap, ◌∙◌, subst, arith, append_assoc, length-append}
+use Rattle.std.proofs.Common.{◌≡◌, ℕ, ◌+◌, ◌-◌, ◌^◌, ◌<◌, ◌≤◌, Bool, true, false, cond, ltb, List, ◌++◌, length, take, drop, Option, Some, None, Result, Ok, Err, refl, sym, ap, ◌∙◌, subst, arith, append_assoc, length-append}
 use Rattle.std.proofs.lemmas.Bool.{ltb-false, le-ltb}
 use Rattle.std.proofs.lemmas.List.{take_at, drop_at, take-append-drop, length-take, length-drop, drop-drop}
 use Rattle.sp_frames.specs.declared.fault.FrameFault.{FrameFault}
-use Rattle.sp_frames.specs.declared.fault.FrameFault.TheVariants.{TooShort, TooLong, Class, Kind, Word, Payload}
+use Rattle.sp_frames.specs.declared.fault.FrameFault.TheVariants.{TooShort, TooLong, Class, Kind, Word}
 use Rattle.sp_frames.specs.declared.frame.Body.{Body}
 use Rattle.sp_frames.specs.declared.frame.Frame.{Frame}
 use Rattle.sp_frames.specs.declared.header.Header.{Header}
 use Rattle.sp_frames.specs.declared.rows.Row.{Row}
 use Rattle.sp_frames.specs.declared.reading.Step.{Step}
-use Rattle.sp_frames.specs.declared.reading.Step.TheVariants.{Whole, Partial, Fault}
+use Rattle.sp_frames.specs.declared.reading.Step.TheVariants.{Whole, Partial}
 use Rattle.sp_frames.specs.Fields.{IsBytes}
 use Rattle.sp_frames.specs.Grammar.{parts_of, payload_of, header_of, header_bytes, spelling, Fits}
 use Rattle.sp_frames.specs.Faults.{HeaderFits}
 use Rattle.sp_frames.specs.Feeding.{IsFront}
-use Rattle.sp_frames.specs.Reading.{header_at, class_in, kind_in, has_size, body_at, row_at, has_kind, row_or, sized, row_of, framed, step_by, step_of}
+use Rattle.sp_frames.specs.Reading.{header_at, has_size, body_at, row_at, has_kind, row_or, sized, row_of, framed, step_by, step_of}
 use Rattle.sp_frames.proofs.FieldLaws.{IsBytes-drop, IsBytes-take}
 use Rattle.sp_frames.proofs.HeaderLaws.{header_len, header_again, header_back, header_below}
-use Rattle.sp_frames.proofs.RowLaws.{IsRow, row_is, class_in-most, kind_in-most, IsOf, body_found, row_for, body_read}
+use Rattle.sp_frames.proofs.RowLaws.{row_is, class_in-most, kind_in-most, IsOf, body_found, row_for, body_read}
 
 -- the bytes behind a header
 pub behind_header : (h : Header) (more : List ℕ) → drop 24 (header_bytes h ++ more) ≡ more

@@ -1,8 +1,7 @@
 -- A stream is its frames and no others.
-use Rattle.std.proofs.Common.{◌≡◌, ℕ, ◌+◌, List, [], ◌∷◌, ◌++◌, length, drop, Option, Some, None, refl, sym, ap, subst, ◌∙◌, append_assoc}
+use Rattle.std.proofs.Common.{◌≡◌, ℕ, ◌+◌, List, [], ◌∷◌, ◌++◌, length, drop, refl, sym, ap, ◌∙◌, append_assoc}
 use Rattle.std.specs.List.{flat_map, AllByRecursion}
 use Rattle.std.proofs.lemmas.List.{append-nil, drop_at, drop-drop}
-use Rattle.sp_frames.specs.declared.fault.FrameFault.{FrameFault}
 use Rattle.sp_frames.specs.declared.frame.Frame.{Frame}
 use Rattle.sp_frames.specs.declared.reading.Step.{Step}
 use Rattle.sp_frames.specs.declared.reading.Step.TheVariants.{Whole, Partial, Fault}

@@ -1,5 +1,5 @@
 -- Numbers as bytes, the lowest byte first.
-use Rattle.std.specs.Prelude.{ℕ, ◌<◌, ◌^◌, List, [], ◌++◌, slice_index}
+use Rattle.std.specs.Prelude.{ℕ, ◌<◌, ◌^◌, List, slice_index}
 use Rattle.std.specs.List.{flat_map}
 use Rattle.std.specs.Int.{w16, w32, w64, to_le_bytes, from_le_bytes}
 

@@ -1,12 +1,11 @@
 -- The grammar: how each frame is spelled, and which frames are within their rows.
 use Rattle.std.specs.Prelude.{◌≡◌, ℕ, ◌+◌, ◌<◌, ◌≤◌, ◌^◌, ◌==◌, false, List, [], ◌∷◌, ◌++◌, length, slice_index}
 use Rattle.std.specs.List.{flat_map, list_any, AllByRecursion}
-use Rattle.sp_base.specs.declared.names.Answer.{Answer}
 use Rattle.sp_frames.specs.declared.frame.Body.{Body}
 use Rattle.sp_frames.specs.declared.frame.Body.TheVariants.{Guest, Sys, Hello, Answered}
 use Rattle.sp_frames.specs.declared.frame.Frame.{Frame}
 use Rattle.sp_frames.specs.declared.header.Header.{Header}
-use Rattle.sp_frames.specs.Fields.{le16, le32, le64, IsBytes, Number, n16, n32, n64, number_bytes, NumberFits, front_bytes}
+use Rattle.sp_frames.specs.Fields.{le16, le32, le64, IsBytes, Number, n32, n64, NumberFits, front_bytes}
 
 -- what a body puts into its frame: class, type and word of the header, and a payload of numbers with bytes behind them
 pub record Parts : Type 0 where

@@ -164,16 +164,12 @@ impl Framer {
         ensures added { self.old.stop ≡ None → result ≢ Err fault.NoMemory → bytes_of self.new ≡ bytes_of self.old ++ piece.now }
         ensures ok { OnOk result ((self.new.stop ≡ None) × NoFault self.new.rest) }
         ensures fault { IfErr result (λ e. e ≢ fault.NoMemory → (self.new.stop ≡ Some e) × HasFault self.new.rest e) }
-        ensures exact {
-            self.old.stop ≡ None → (frames : List Frame) (rest : List ℕ) (e : FrameFault)
-            → IsWhole (bytes_of self.old ++ piece.now) frames rest → HasFault rest e → (result ≡ Err e) ⊎ (result ≡ Err fault.NoMemory)
-        }
+        ensures exact { self.old.stop ≡ None → (frames : List Frame) (rest : List ℕ) (e : FrameFault)
+            → IsWhole (bytes_of self.old ++ piece.now) frames rest → HasFault rest e → (result ≡ Err e) ⊎ (result ≡ Err fault.NoMemory) }
 
         // The frames handed out, and then those ready, are the frames of all bytes fed.
-        ensures follows {
-            self.old.stop ≡ None → result ≢ Err fault.NoMemory → (fed : List ℕ) (handed : List Frame)
-            → Follows fed handed self.old → Follows (fed ++ piece.now) handed self.new
-        }
+        ensures follows { self.old.stop ≡ None → result ≢ Err fault.NoMemory → (fed : List ℕ) (handed : List Frame)
+            → Follows fed handed self.old → Follows (fed ++ piece.now) handed self.new }
     {
         match self.stop {
             Some(fault) => Err(fault),
@@ -189,7 +185,7 @@ impl Framer {
         self.stop = add(self.alloc, &mut self.ready, &mut self.bytes, piece)?;
         match self.stop {
             None => Ok(()),
-            Some(fault) => Err(fault),
+            Some(met) => Err(met),
         }
     }
 
@@ -200,10 +196,8 @@ impl Framer {
         ensures rest { self.new.rest ≡ self.old.rest }
         ensures stop { self.new.stop ≡ self.old.stop }
         ensures fits { IfSome result Fits }
-        ensures follows {
-            IfSome result (λ frame. (fed : List ℕ) (handed : List Frame)
-            → Follows fed handed self.old → Follows fed (handed ++ frame ∷ []) self.new)
-        }
+        ensures follows { IfSome result (λ frame. (fed : List ℕ) (handed : List Frame)
+            → Follows fed handed self.old → Follows fed (handed ++ frame ∷ []) self.new) }
     {
         self.ready.pop_front()
     }

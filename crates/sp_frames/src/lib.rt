@@ -12,6 +12,8 @@ mod header;
 mod laws;
 mod reading;
 mod rows;
+#[cfg(test)]
+mod tests;
 mod writing;
 
 pub use banner::BANNER;

@@ -27,31 +27,6 @@ itself n e = grind (arith, nat_tests)
 differs : (a b : ℕ) → a ≢ b → (a == b) ≡ false
 differs a b ne = grind (arith, nat_tests)
 
--- ---- what holds of all
-
-pub all_at : {A : Type 0} (P : A → Type 0) (xs : List A) (i : ℕ) (x : A) → AllByRecursion P xs → slice_get xs i ≡ Some x → P x
-all_at P [] i x h e = absurd cc
-all_at P (y ∷ xs) zero x h e = let same : y ≡ x = cc in subst P same h.0
-all_at P (y ∷ xs) (suc i) x h e = all_at P xs i x h.1 e
-
-pub all_remove : {A : Type 0} (P : A → Type 0) (xs : List A) (i : ℕ) → AllByRecursion P xs → AllByRecursion P (remove xs i)
-all_remove P [] zero h = tt
-all_remove P [] (suc i) h = tt
-all_remove P (x ∷ xs) zero h = h.1
-all_remove P (x ∷ xs) (suc i) h = (h.0, all_remove P xs i h.1)
-
-pub all_push : {A : Type 0} (P : A → Type 0) (xs : List A) (x : A) → AllByRecursion P xs → P x → AllByRecursion P (xs ++ x ∷ [])
-all_push P [] x h p = (p, tt)
-all_push P (y ∷ xs) x h p = (h.0, all_push P xs x h.1 p)
-
-pub all_map : {A : Type 0} (P Q : A → Type 0) → ((a : A) → P a → Q a) → (xs : List A) → AllByRecursion P xs → AllByRecursion Q xs
-all_map P Q f [] h = tt
-all_map P Q f (x ∷ xs) h = (f x h.0, all_map P Q f xs h.1)
-
-pub all_none : {A : Type 0} (P : A → Type 0) (xs : List A) → xs ≡ [] → AllByRecursion P xs
-all_none P [] e = tt
-all_none P (x ∷ xs) e = absurd cc
-
 -- ---- numbers that are open
 
 pub not_open_none : (calls : List OpenCall) (n : ℕ) → calls ≡ [] → NotOpen n calls

@@ -2,7 +2,7 @@ pub mod Journals
 pub mod Acts
 pub mod KernelLaws
 pub mod Performs
-pub mod Places
+pub mod Lists
 pub mod Calls
 pub mod Sound
 pub mod Verdicts

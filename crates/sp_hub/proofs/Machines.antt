@@ -17,7 +17,7 @@ use Rattle.sp_hub.specs.Connection.{fresh_connection, process_in}
 use Rattle.sp_hub.specs.Machine.{Machine, Played, PlaysOrStays, fresh_machine, place_of, after_step, step_of_found, step_at, on_connection, opened}
 use Rattle.sp_hub.specs.Sound.{IsReached, IsSound}
 use Rattle.sp_hub.specs.Step.{Step, StepsOrStays}
-use Rattle.sp_hub.proofs.Places.{set_itself}
+use Rattle.sp_hub.proofs.Lists.{set_itself}
 use Rattle.sp_hub.proofs.Sound.{IsProcess, Keeps, sound_step}
 use Rattle.sp_hub.proofs.Steps.{IsOwner, same_keeps}
 

@@ -20,10 +20,6 @@ use Rattle.sp_hub.specs.Kernel.{Performs}
 use Rattle.sp_hub.specs.Step.{Step, answered, attach_step, exit_of, with_entry, perform_step, work_call, hello, no_process, nothing_read}
 use Rattle.sp_hub.proofs.KernelLaws.{nexts, attach_below, process_numbers}
 
-pub all_push : {A : Type 0} (P : A → Type 0) (xs : List A) (x : A) → AllByRecursion P xs → P x → AllByRecursion P (xs ++ x ∷ [])
-all_push P [] x h p = (p, tt)
-all_push P (y ∷ xs) x h p = (h.0, all_push P xs x h.1 p)
-
 pub attach_pid : (journal new : List Entry) (who : Who) (answer : Answer) → Performs journal (next_entry journal no_process who op.Attach nothing_read) answer new → answer.ret0 < 2 ^ 32
 attach_pid journal new who answer does =
     let n = nexts journal no_process who op.Attach nothing_read does.entry does.is in

@@ -31,7 +31,7 @@ use Rattle.sp_hub.specs.Sound.{IsConnection, IsSound}
 use Rattle.sp_hub.specs.Step as step
 use Rattle.sp_hub.specs.Step.{attach_step, frame_step_by, frame_step, perform_step, work_call, work_at, work_step, take_from, take_step, end_by, end_step, no_process, nothing_read}
 use Rattle.sp_hub.specs.Verdict.{verdict_of}
-use Rattle.sp_hub.proofs.Calls.{all_at}
+use Rattle.sp_hub.proofs.Lists.{all_at}
 use Rattle.sp_hub.proofs.KernelLaws.{attach_acts, call_acts}
 
 -- a call never waits by now, a frame that is handed out is within its row, and only code wants memory
@@ -101,3 +101,6 @@ plays_ready said m answer n fair (inr k) not = let wants = k.0 in cc
 pub plays_fit : (said : Played) (m : Machine) (answer : Reply) (n : Machine) → IsFair said.0 → PlaysOrStays said m answer n → (f : Frame) → answer ≡ reply.Out f → Fits f
 plays_fit said m answer n fair (inl e) f out = subst IsFair (sym (ap (λ (p : Played). p.0) e) ∙ out) fair
 plays_fit said m answer n fair (inr k) f out = let wants = k.0 in absurd cc
+
+pub plays_free : (said : Played) (answer : Reply) (n : Machine) → IsFair said.0 → ◌≡◌ {A = Played} (answer, n) said → answer ≢ reply.NoMemory
+plays_free said answer n fair e wants = subst IsFair (sym (ap (λ (p : Played). p.0) e) ∙ wants) fair

@@ -28,7 +28,8 @@ use Rattle.sp_hub.specs.Connection.{over, process_in, place_of_call}
 use Rattle.sp_hub.specs.Step.{Step, nothing_read, no_process, hello, response, attach_step, open_step, frame_step_by, frame_step, perform_step, work_call, work_at, work_step, take_from, take_step, exit_of, with_entry, end_by, end_step}
 use Rattle.sp_hub.specs.Verdict.{verdict_of}
 use Rattle.sp_hub.specs.Sound.{IsReached, IsConnection, NotOpen, HasOwnNumbers, Spends}
-use Rattle.sp_hub.proofs.Calls.{all_at, all_remove, all_push, all_map, all_none, not_open_none, not_open_push, not_open_remove, own_none, own_push, own_remove, open_at, gone_at, reached_remove, reached_fresh}
+use Rattle.sp_hub.proofs.Calls.{not_open_none, not_open_push, not_open_remove, own_none, own_push, own_remove, open_at, gone_at, reached_remove, reached_fresh}
+use Rattle.sp_hub.proofs.Lists.{all_at, all_remove, all_push, all_map, all_none}
 use Rattle.sp_hub.proofs.Journals.{entry, follows_by}
 use Rattle.sp_hub.proofs.KernelLaws.{Nexts, nexts, attach_does, call_live, exit_live, lowest_unused_is, live_put, put_live, process_numbers}
 use Rattle.sp_hub.proofs.Sound.{IsProcess, IsAbout, Adds, Keeps}

@@ -16,9 +16,13 @@ pub record Machine : Type 0 where
   pub journal : List Entry
   pub connections : List Connection
 
+-- the machine of a journal and connections
+abbrev pub machine_of : List Entry → List Connection → Machine
+machine_of journal connections = record { journal = journal; connections = connections }
+
 -- a machine to which nothing happened yet
 abbrev pub fresh_machine : Machine
-fresh_machine = record { journal = []; connections = [] }
+fresh_machine = machine_of [] []
 
 -- what the machine answers, and the machine after it
 abbrev pub Played : Type 0
@@ -30,7 +34,7 @@ place_of connections c = position_from (λ x. x.no.0 == c.0) 0 connections
 
 -- the machine after a step of the connection at a place
 abbrev pub after_step : Machine → ℕ → Step → Played
-after_step m place step = (step.reply, record { journal = step.journal; connections = slice_set m.connections place step.connection })
+after_step m place step = (step.reply, machine_of step.journal (slice_set m.connections place step.connection))
 
 -- a step of the connection at a place, if there is one
 abbrev pub step_of_found : Machine → Reply → (List Entry → Connection → Step) → ℕ → Option Connection → Played

@@ -1,6 +1,7 @@
-ghost use Rattle.std.specs.Prelude.{◌≡◌};
+ghost use Rattle.std.specs.Prelude.{◌≡◌, List};
 ghost use Rattle.std.specs.List.{AllByRecursion};
 ghost use Rattle.sp_frames.specs.Grammar.{Fits};
+ghost use Rattle.kern_model.specs.declared.journal.Entry.{Entry};
 ghost use Rattle.kern_model.specs.declared.journal.Who.TheVariants.{Request};
 ghost use Rattle.kern_model.specs.declared.operation.Op.TheVariants as op;
 ghost use Rattle.kern_model.specs.Journal.{next_entry};
@@ -56,12 +57,11 @@ fn attach(kernel: &mut Kernel, connection: &mut Connection, frame: &Frame) -> Re
     }
 }
 
-/// Opens a call.
-fn open(kernel: &mut Kernel, connection: &mut Connection, frame: &Frame, call: Call) -> Reply
-    ensures step { StepsOrStays (open_step kernel.old connection.old frame.now call) kernel.old connection.old result kernel.new connection.new }
+/// Opens a call, whatever the journal.
+fn open(connection: &mut Connection, frame: &Frame, call: Call) -> Reply
+    ensures step { (journal : List Entry) → StepsOrStays (open_step journal connection.old frame.now call) journal connection.old result journal connection.new }
     ensures queue { connection.new.queue ≡ connection.old.queue }
 {
-    let _ = &kernel;
     let number = frame.number;
     match connection.calls.push(OpenCall { number, call }) {
         Ok(()) => {
@@ -81,6 +81,6 @@ pub fn frame(kernel: &mut Kernel, connection: &mut Connection, frame: &Frame) ->
         Verdict::Closed => Reply::Closed,
         Verdict::Refused(_) => Reply::Refused(SpError::Malformed),
         Verdict::Attach => attach(kernel, connection, frame),
-        Verdict::Open(call) => open(kernel, connection, frame, call),
+        Verdict::Open(call) => open(connection, frame, call),
     }
 }

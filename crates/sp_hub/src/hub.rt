@@ -1,10 +1,11 @@
-ghost use Rattle.std.specs.Prelude.{◌≡◌, ◌≢◌, ◌<◌, [], ◌∷◌, ◌++◌, OnOk, OnErr, nat_lt, IfOk, length, IfSome};
+ghost use Rattle.std.specs.Prelude.{◌≡◌, ◌≢◌, ◌<◌, [], ◌∷◌, ◌++◌, List, OnOk, OnErr, nat_lt, IfOk, length, IfSome};
 ghost use Rattle.std.specs.List.{list_all};
+ghost use Rattle.kern_model.specs.declared.journal.Entry.{Entry};
 ghost use Rattle.kern_model.specs.Journal.{IsLegal, HasOwnKeys};
 ghost use Rattle.sp_frames.specs.Grammar.{Fits};
 ghost use Rattle.sp_frames.specs.declared.frame.Frame.{Frame};
 ghost use Rattle.sp_hub.specs.Connection.{fresh_connection};
-ghost use Rattle.sp_hub.specs.Machine.{PlaysOrStays, fresh_machine, place_of, on_connection, opened, played};
+ghost use Rattle.sp_hub.specs.Machine.{PlaysOrStays, fresh_machine, machine_of, place_of, on_connection, opened, played};
 ghost use Rattle.sp_hub.specs.Sound.{IsSound};
 ghost use Rattle.sp_hub.specs.Step.{frame_step, work_step, take_step, end_step};
 
@@ -23,20 +24,19 @@ use std::marker::Model;
 /// The server's core: the connections of its clients, and the kernel that performs their calls.
 #[derive(Drop)]
 pub struct Hub {
-    alloc: Global,
     kernel: Kernel,
     connections: Vec<Connection>,
 }
 
 impl Model for Hub {
-    ghost use Rattle.sp_hub.specs.Machine.{Machine};
+    ghost use Rattle.sp_hub.specs.Machine.{Machine, machine_of};
     ghost use Rattle.sp_hub.specs.Sound.{IsSound};
 
     ghost Value = { Machine };
 
-    ghost view = { λ h. record { journal = h.kernel; connections = h.connections.items } };
+    ghost view = { λ h. machine_of h.kernel h.connections.items };
 
-    ghost invariant = { λ h. IsSound (record { journal = h.kernel; connections = h.connections.items }) };
+    ghost invariant = { λ h. IsSound (machine_of h.kernel h.connections.items) };
 }
 
 /// Where a connection stands.
@@ -69,16 +69,15 @@ fn add(alloc: Global, connections: &mut Vec<Connection>, no: ConnNo) -> Result<(
 }
 
 /// A connection opens.
-fn open_in(alloc: Global, kernel: &Kernel, connections: &mut Vec<Connection>, no: ConnNo) -> Reply
-    requires sound { IsSound (record { journal = kernel.now; connections = connections.old.items }) }
-    ensures plays { PlaysOrStays (opened (record { journal = kernel.now; connections = connections.old.items }) no) (record { journal = kernel.now; connections = connections.old.items }) result (record { journal = kernel.now; connections = connections.new.items }) }
-    ensures sound { IsSound (record { journal = kernel.now; connections = connections.new.items }) }
+fn open_in(kernel: &Kernel, connections: &mut Vec<Connection>, no: ConnNo) -> Reply
+    requires sound { IsSound (machine_of kernel.now connections.old.items) }
+    ensures plays { PlaysOrStays (opened (machine_of kernel.now connections.old.items) no) (machine_of kernel.now connections.old.items) result (machine_of kernel.now connections.new.items) }
+    ensures sound { IsSound (machine_of kernel.now connections.new.items) }
 {
-    let _ = kernel;
     if !is_above(connections, no) {
         return Reply::Closed;
     }
-    match add(alloc, connections, no) {
+    match add(kernel.alloc(), connections, no) {
         Ok(()) => Reply::Nothing,
         Err(NoMemory) => Reply::NoMemory,
     }
@@ -86,9 +85,9 @@ fn open_in(alloc: Global, kernel: &Kernel, connections: &mut Vec<Connection>, no
 
 /// A frame comes over a connection.
 fn frame_in(kernel: &mut Kernel, connections: &mut Vec<Connection>, no: ConnNo, frame: &Frame) -> Reply
-    requires sound { IsSound (record { journal = kernel.old; connections = connections.old.items }) }
-    ensures plays { PlaysOrStays (on_connection (record { journal = kernel.old; connections = connections.old.items }) no Reply.Closed (λ journal x. frame_step journal x frame.now)) (record { journal = kernel.old; connections = connections.old.items }) result (record { journal = kernel.new; connections = connections.new.items }) }
-    ensures sound { IsSound (record { journal = kernel.new; connections = connections.new.items }) }
+    requires sound { IsSound (machine_of kernel.old connections.old.items) }
+    ensures plays { PlaysOrStays (on_connection (machine_of kernel.old connections.old.items) no Reply.Closed (λ journal x. frame_step journal x frame.now)) (machine_of kernel.old connections.old.items) result (machine_of kernel.new connections.new.items) }
+    ensures sound { IsSound (machine_of kernel.new connections.new.items) }
 {
     let Some(place) = place_of(connections, no) else {
         return Reply::Closed;
@@ -99,9 +98,9 @@ fn frame_in(kernel: &mut Kernel, connections: &mut Vec<Connection>, no: ConnNo, 
 
 /// An open call of a connection is worked.
 fn work_in(kernel: &mut Kernel, connections: &mut Vec<Connection>, no: ConnNo, number: ReqNo) -> Reply
-    requires sound { IsSound (record { journal = kernel.old; connections = connections.old.items }) }
-    ensures plays { PlaysOrStays (on_connection (record { journal = kernel.old; connections = connections.old.items }) no Reply.Nothing (λ journal x. work_step journal x number)) (record { journal = kernel.old; connections = connections.old.items }) result (record { journal = kernel.new; connections = connections.new.items }) }
-    ensures sound { IsSound (record { journal = kernel.new; connections = connections.new.items }) }
+    requires sound { IsSound (machine_of kernel.old connections.old.items) }
+    ensures plays { PlaysOrStays (on_connection (machine_of kernel.old connections.old.items) no Reply.Nothing (λ journal x. work_step journal x number)) (machine_of kernel.old connections.old.items) result (machine_of kernel.new connections.new.items) }
+    ensures sound { IsSound (machine_of kernel.new connections.new.items) }
 {
     let Some(place) = place_of(connections, no) else {
         return Reply::Nothing;
@@ -112,9 +111,9 @@ fn work_in(kernel: &mut Kernel, connections: &mut Vec<Connection>, no: ConnNo, n
 
 /// A connection ends.
 fn end_in(kernel: &mut Kernel, connections: &mut Vec<Connection>, no: ConnNo) -> Reply
-    requires sound { IsSound (record { journal = kernel.old; connections = connections.old.items }) }
-    ensures plays { PlaysOrStays (on_connection (record { journal = kernel.old; connections = connections.old.items }) no Reply.Closed end_step) (record { journal = kernel.old; connections = connections.old.items }) result (record { journal = kernel.new; connections = connections.new.items }) }
-    ensures sound { IsSound (record { journal = kernel.new; connections = connections.new.items }) }
+    requires sound { IsSound (machine_of kernel.old connections.old.items) }
+    ensures plays { PlaysOrStays (on_connection (machine_of kernel.old connections.old.items) no Reply.Closed end_step) (machine_of kernel.old connections.old.items) result (machine_of kernel.new connections.new.items) }
+    ensures sound { IsSound (machine_of kernel.new connections.new.items) }
 {
     let Some(place) = place_of(connections, no) else {
         return Reply::Closed;
@@ -123,13 +122,11 @@ fn end_in(kernel: &mut Kernel, connections: &mut Vec<Connection>, no: ConnNo) ->
     ends::end(kernel, connection)
 }
 
-/// The oldest queued frame of a connection is handed out.
-fn take_in(kernel: &Kernel, connections: &mut Vec<Connection>, no: ConnNo) -> Reply
-    requires sound { IsSound (record { journal = kernel.now; connections = connections.old.items }) }
-    ensures plays { (result, record { journal = kernel.now; connections = connections.new.items }) ≡ on_connection (record { journal = kernel.now; connections = connections.old.items }) no Reply.Closed take_step }
-    ensures sound { IsSound (record { journal = kernel.now; connections = connections.new.items }) }
+/// The oldest queued frame of a connection is handed out, whatever the journal.
+fn take_in(connections: &mut Vec<Connection>, no: ConnNo) -> Reply
+    ensures plays { (journal : List Entry) → (result, machine_of journal connections.new.items) ≡ on_connection (machine_of journal connections.old.items) no Reply.Closed take_step }
+    ensures sound { (journal : List Entry) → IsSound (machine_of journal connections.old.items) → IsSound (machine_of journal connections.new.items) }
 {
-    let _ = kernel;
     let Some(place) = place_of(connections, no) else {
         return Reply::Closed;
     };
@@ -143,7 +140,6 @@ impl Hub {
         ensures { IfOk result (λ hub. hub ≡ fresh_machine) }
     {
         Ok(Hub {
-            alloc,
             kernel: Kernel::fresh(alloc)?,
             connections: Vec::new(alloc),
         })
@@ -155,7 +151,6 @@ impl Hub {
         ensures legal { IsLegal self.now.journal }
         ensures keys { HasOwnKeys self.now.journal }
     {
-        let _ = &self.connections;
         self.kernel.journal()
     }
 
@@ -163,7 +158,7 @@ impl Hub {
     pub fn opened(&mut self, no: ConnNo) -> Reply
         ensures plays { PlaysOrStays (played self.old (Event.Opened no)) self.old result self.new }
     {
-        open_in(self.alloc, &self.kernel, &mut self.connections, no)
+        open_in(&self.kernel, &mut self.connections, no)
     }
 
     /// A frame comes over a connection.
@@ -189,7 +184,7 @@ impl Hub {
         ensures fits { (frame : Frame) → result ≡ Reply.Out frame → Fits frame }
         ensures memory { result ≢ Reply.NoMemory }
     {
-        take_in(&self.kernel, &mut self.connections, no)
+        take_in(&mut self.connections, no)
     }
 
     /// The input of a connection ended.

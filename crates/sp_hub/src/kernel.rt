@@ -117,7 +117,6 @@ impl Kernel {
         ensures journal { result.now ≡ self.now }
         ensures legal { IsLegal self.now }
     {
-        let _ = &self.plain;
         self.journal.slice()
     }
 
@@ -125,7 +124,6 @@ impl Kernel {
     pub fn is_full(&self) -> bool
         ensures { IsTrue result ↔ (lowest_unused (state_after self.now).processes 2 ≡ None) }
     {
-        let _ = &self.journal;
         self.plain.is_full()
     }
 

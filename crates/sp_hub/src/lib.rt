@@ -8,6 +8,8 @@ mod frames;
 mod hub;
 mod kernel;
 mod room;
+#[cfg(test)]
+mod tests;
 mod verdict;
 mod work;
 

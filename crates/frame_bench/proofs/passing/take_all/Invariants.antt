@@ -1,7 +1,5 @@
-use Rattle.std.proofs.Common.{List, ℕ, ◌≡◌, ◌++◌, length}
-use Rattle.sp_frames.specs.declared.frame.Frame.{Frame}
-use Rattle.sp_frames.specs.Framing.{Follows}
-use Rattle.frame_bench.specs.Frames.{counted, HandsOut}
+use Rattle.std.proofs.Common.{◌≡◌, length}
+use Rattle.frame_bench.specs.Frames.{HandsOut}
 use Rattle.frame_bench.proofs.passing.take_all.Given as goal
 
 abbrev pub invariant-loop-frame : goal.invariant-loop-frame

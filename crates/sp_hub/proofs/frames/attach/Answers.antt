@@ -2,7 +2,8 @@ use Rattle.std.proofs.Common.{inl, refl, subst, sym, List, arith}
 use Rattle.std.specs.List.{AllByRecursion}
 use Rattle.sp_frames.specs.declared.frame.Frame.{Frame}
 use Rattle.sp_frames.specs.Grammar.{Fits}
-use Rattle.sp_hub.proofs.Performs.{attach_pid, attached, all_push}
+use Rattle.sp_hub.proofs.Lists.{all_push}
+use Rattle.sp_hub.proofs.Performs.{attach_pid, attached}
 use Rattle.sp_hub.proofs.frames.attach.Goals as goal
 
 pub overflow_cast-pid : goal.overflow_cast-pid

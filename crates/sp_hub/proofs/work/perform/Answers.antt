@@ -3,7 +3,8 @@ use Rattle.std.specs.List.{AllByRecursion}
 use Rattle.std.proofs.lemmas.Option.{slice_get_read}
 use Rattle.sp_frames.specs.declared.frame.Frame.{Frame}
 use Rattle.sp_frames.specs.Grammar.{Fits}
-use Rattle.sp_hub.proofs.Performs.{worked, all_push}
+use Rattle.sp_hub.proofs.Lists.{all_push}
+use Rattle.sp_hub.proofs.Performs.{worked}
 use Rattle.sp_hub.proofs.work.perform.Goals as goal
 
 pub returns-in-Done-clause-step : goal.returns-in-Done-clause-step
