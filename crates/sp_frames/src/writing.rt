@@ -92,8 +92,9 @@ fn spelled(alloc: Global, frame: &Frame) -> Result<Octets, NoMemory>
     requires { Fits frame.now }
     ensures { IfOk result (λ text. text ≡ spelling frame.now) }
 {
-    let mut text = Octets::none(alloc);
-    put_header(&mut text, &header(frame))?;
+    let header = header(frame);
+    let mut text = Octets::from_vec(Vec::with_capacity(alloc, header.len as usize)?);
+    put_header(&mut text, &header)?;
     put_payload(&mut text, &frame.body)?;
     Ok(text)
 }

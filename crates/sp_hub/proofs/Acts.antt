@@ -26,7 +26,7 @@ performed journal new s t pid who op ins outcome kernel process given acts is =
     let does : act (state_after journal) pid.0 op ins ≡ Some (outcome, t) = subst (λ (u : State). act u pid.0 op ins ≡ Some (outcome, t)) (sym kernel.1) acts in
     let follows = follows_by (state_after journal) t pid who op ins outcome fits given does in
     subst (λ (j : List Entry). IsKernel j t) (sym is)
-      (legal_push journal (entry pid who op ins outcome) kernel.0 follows, state_after-push journal (entry pid who op ins outcome) ∙ after_entry-entry (state_after journal) t pid who op ins outcome does)
+    (legal_push journal (entry pid who op ins outcome) kernel.0 follows, state_after-push journal (entry pid who op ins outcome) ∙ after_entry-entry (state_after journal) t pid who op ins outcome does)
 
 pub kept : (journal new : List Entry) (s t : State) (pid : Pid) (who : Who) (op : Op) (ins : Ins) (acted : Acted)
     → IsKernel journal s → FitsPid s pid.0 op → FitsIns op ins

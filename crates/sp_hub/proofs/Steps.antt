@@ -188,8 +188,8 @@ perform_keeps journal x place t pid queue e is owner there process next fit =
       };
       spends = λ who h. work_spends x place queue who h;
       grows = inr (adds journal x x' pid (Request x.no t.number) (op.Sys t.call) nothing_read e (owner pid live) refl n
-        (refl, all_at (λ t. t.number.0 ≤ x.last.0) x.calls place t is.bounded there, gone_at x.calls place t is.own there)
-        (λ (h : Spends x (Request x.no t.number)). open_at x.calls place t there h.2) refl);
+          (refl, all_at (λ t. t.number.0 ≤ x.last.0) x.calls place t is.bounded there, gone_at x.calls place t is.own there)
+          (λ (h : Spends x (Request x.no t.number)). open_at x.calls place t there h.2) refl);
       others = λ q h not. still q h;
       mine = λ p h. still p (owner p h);
       fresh = λ p h. inl h;

@@ -22,7 +22,11 @@ pub fn take(connection: &mut Connection) -> Reply
         condition => match connection.queue.take_first() {
             Some(frame) => Reply::Out(frame),
             None => {
-                if condition == Condition::Draining { Reply::Closed } else { Reply::Nothing }
+                if condition == Condition::Draining {
+                    Reply::Closed
+                } else {
+                    Reply::Nothing
+                }
             }
         },
     }

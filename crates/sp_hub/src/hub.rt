@@ -10,11 +10,9 @@ ghost use Rattle.sp_hub.specs.Sound.{IsSound};
 ghost use Rattle.sp_hub.specs.Step.{frame_step, work_step, take_step, end_step};
 
 use crate::connection::Connection;
-use crate::ends;
 use crate::event::{Event, Finish, Reply};
-use crate::frames;
 use crate::kernel::Kernel;
-use crate::work;
+use crate::{ends, frames, work};
 use kern_model::Entry;
 use sp_base::{ConnNo, NoMemory, ReqNo};
 use sp_frames::Frame;
@@ -84,7 +82,12 @@ fn open_in(kernel: &Kernel, connections: &mut Vec<Connection>, no: ConnNo) -> Re
 }
 
 /// A frame comes over a connection.
-fn frame_in(kernel: &mut Kernel, connections: &mut Vec<Connection>, no: ConnNo, frame: &Frame) -> Reply
+fn frame_in(
+    kernel: &mut Kernel,
+    connections: &mut Vec<Connection>,
+    no: ConnNo,
+    frame: &Frame,
+) -> Reply
     requires sound { IsSound (machine_of kernel.old connections.old.items) }
     ensures plays { PlaysOrStays (on_connection (machine_of kernel.old connections.old.items) no Reply.Closed (λ journal x. frame_step journal x frame.now)) (machine_of kernel.old connections.old.items) result (machine_of kernel.new connections.new.items) }
     ensures sound { IsSound (machine_of kernel.new connections.new.items) }
@@ -97,7 +100,12 @@ fn frame_in(kernel: &mut Kernel, connections: &mut Vec<Connection>, no: ConnNo, 
 }
 
 /// An open call of a connection is worked.
-fn work_in(kernel: &mut Kernel, connections: &mut Vec<Connection>, no: ConnNo, number: ReqNo) -> Reply
+fn work_in(
+    kernel: &mut Kernel,
+    connections: &mut Vec<Connection>,
+    no: ConnNo,
+    number: ReqNo,
+) -> Reply
     requires sound { IsSound (machine_of kernel.old connections.old.items) }
     ensures plays { PlaysOrStays (on_connection (machine_of kernel.old connections.old.items) no Reply.Nothing (λ journal x. work_step journal x number)) (machine_of kernel.old connections.old.items) result (machine_of kernel.new connections.new.items) }
     ensures sound { IsSound (machine_of kernel.new connections.new.items) }

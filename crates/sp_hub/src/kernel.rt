@@ -136,6 +136,14 @@ impl Kernel {
         ensures waits { result ≡ Acted.NotReady → (next_entry self.old pid who op ins ≡ None) × (self.new ≡ self.old) }
         ensures no_memory { result ≡ Acted.NoMemory → self.new ≡ self.old }
     {
-        perform(self.alloc, &mut self.journal, &mut self.plain, pid, who, op, ins)
+        perform(
+            self.alloc,
+            &mut self.journal,
+            &mut self.plain,
+            pid,
+            who,
+            op,
+            ins,
+        )
     }
 }

@@ -21,6 +21,111 @@ enum Step {
     Ended(u32),
 }
 
+/// A connection that was never opened, then frames that are refused among frames that are taken.
+const REFUSALS: [(Step, &str); 20] = [
+    (Step::Guest(1, 1), "Closed"),
+    (Step::Take(1), "Closed"),
+    (Step::Ended(1), "Closed"),
+    (Step::Work(1, 1), "Nothing"),
+    (Step::Opened(1), "Nothing"),
+    (Step::Opened(1), "Closed"),
+    (Step::Opened(0), "Closed"),
+    (Step::Take(1), "Nothing"),
+    (Step::Guest(1, 0), "Refused(Malformed)"),
+    (Step::Call(1, 1, 1, 0), "Refused(Malformed)"),
+    (Step::Guest(1, 5), "Done"),
+    (Step::Guest(1, 6), "Refused(Malformed)"),
+    (Step::Call(1, 5, 1, 0), "Refused(Malformed)"),
+    (Step::Call(1, 6, 3, 2), "Refused(Malformed)"),
+    (Step::Call(1, 6, 4, 3), "Refused(Malformed)"),
+    (Step::Response(1, 6), "Refused(Malformed)"),
+    (Step::Call(1, 6, 1, 0), "Task(ReqNo(6))"),
+    (Step::Work(1, 5), "Nothing"),
+    (Step::Work(1, 6), "Done"),
+    (Step::Work(1, 6), "Nothing"),
+];
+
+/// Three guests: the second lives beside the first one, and the third comes after it.
+const GUESTS: [(Step, &str); 23] = [
+    (Step::Opened(1), "Nothing"),
+    (Step::Guest(1, 1), "Done"),
+    (Step::Call(1, 2, 1, 0), "Task(ReqNo(2))"),
+    (Step::Call(1, 3, 3, 1), "Task(ReqNo(3))"),
+    (Step::Call(1, 9, 99, 0), "Task(ReqNo(9))"),
+    (Step::Work(1, 2), "Done"),
+    (Step::Work(1, 9), "Done"),
+    (Step::Work(1, 3), "Done"),
+    (
+        Step::Take(1),
+        "Out(Frame { number: ReqNo(1), body: Hello { pid: Pid(2) } })",
+    ),
+    (
+        Step::Take(1),
+        "Out(Frame { number: ReqNo(2), body: Answered(Answer { err: 0, ret0: 2, ret1: 0, place: Place(1) }) })",
+    ),
+    (
+        Step::Take(1),
+        "Out(Frame { number: ReqNo(9), body: Answered(Answer { err: 78, ret0: 0, ret1: 0, place: Place(2) }) })",
+    ),
+    (
+        Step::Take(1),
+        "Out(Frame { number: ReqNo(3), body: Answered(Answer { err: 9, ret0: 0, ret1: 0, place: Place(3) }) })",
+    ),
+    (Step::Take(1), "Nothing"),
+    (Step::Opened(2), "Nothing"),
+    (Step::Guest(2, 1), "Done"),
+    (
+        Step::Take(2),
+        "Out(Frame { number: ReqNo(1), body: Hello { pid: Pid(3) } })",
+    ),
+    (Step::Ended(1), "Nothing"),
+    (Step::Take(1), "Closed"),
+    (Step::Call(1, 10, 1, 0), "Closed"),
+    (Step::Ended(1), "Closed"),
+    (Step::Opened(3), "Nothing"),
+    (Step::Guest(3, 1), "Done"),
+    (
+        Step::Take(3),
+        "Out(Frame { number: ReqNo(1), body: Hello { pid: Pid(2) } })",
+    ),
+];
+
+/// The journal of these guests.
+const JOURNAL: [&str; 7] = [
+    "Pid(0) Request(ConnNo(1), ReqNo(1)) Attach",
+    "Pid(2) Request(ConnNo(1), ReqNo(2)) Sys(Getpid)",
+    "Pid(2) Request(ConnNo(1), ReqNo(9)) Sys(Unknown { num: 99, words: Words { items: [] } })",
+    "Pid(2) Request(ConnNo(1), ReqNo(3)) Sys(Close { fd: 3 })",
+    "Pid(0) Request(ConnNo(2), ReqNo(1)) Attach",
+    "Pid(2) End(ConnNo(1)) Exit",
+    "Pid(0) Request(ConnNo(3), ReqNo(1)) Attach",
+];
+
+/// Where 256 processes live and connection 7 has 64 open calls.
+const LIMITS: [(Step, &str); 12] = [
+    (Step::Opened(257), "Nothing"),
+    (Step::Guest(257, 1), "Refused(Malformed)"),
+    (Step::Call(7, 66, 1, 0), "Refused(Malformed)"),
+    (Step::Work(7, 2), "Done"),
+    (Step::Call(7, 66, 1, 0), "Refused(Malformed)"),
+    (
+        Step::Take(7),
+        "Out(Frame { number: ReqNo(1), body: Hello { pid: Pid(8) } })",
+    ),
+    (Step::Call(7, 66, 1, 0), "Refused(Malformed)"),
+    (
+        Step::Take(7),
+        "Out(Frame { number: ReqNo(2), body: Answered(Answer { err: 0, ret0: 8, ret1: 0, place: Place(256) }) })",
+    ),
+    (Step::Call(7, 66, 1, 0), "Task(ReqNo(66))"),
+    (Step::Ended(7), "Nothing"),
+    (Step::Guest(257, 1), "Done"),
+    (
+        Step::Take(257),
+        "Out(Frame { number: ReqNo(1), body: Hello { pid: Pid(8) } })",
+    ),
+];
+
 /// The call of a number with so many words, eight at most.
 fn call(num: u32, count: usize) -> Body {
     let words = [3; 8];
@@ -57,7 +162,12 @@ fn event(alloc: Global, step: Step) -> Result<Event, NoMemory> {
 }
 
 /// Plays the rows, each of which says what the hub answers.
-fn play_all(rt: &impl Abort, alloc: Global, hub: &mut Hub, rows: &[(Step, &str)]) -> Result<(), Fail> {
+fn play_all(
+    rt: &impl Abort,
+    alloc: Global,
+    hub: &mut Hub,
+    rows: &[(Step, &str)],
+) -> Result<(), Fail> {
     for (step, want) in rows {
         let reply = hub.play(event(alloc, *step)?);
         let shown = format!(in alloc; "{reply:?}")?;
@@ -69,29 +179,7 @@ fn play_all(rt: &impl Abort, alloc: Global, hub: &mut Hub, rows: &[(Step, &str)]
 #[test]
 fn refusals_change_nothing(rt: HostRuntime) -> Result<(), Fail> {
     let mut hub = Hub::fresh(rt.alloc())?;
-    let rows = [
-        (Step::Guest(1, 1), "Closed"),
-        (Step::Take(1), "Closed"),
-        (Step::Ended(1), "Closed"),
-        (Step::Work(1, 1), "Nothing"),
-        (Step::Opened(1), "Nothing"),
-        (Step::Opened(1), "Closed"),
-        (Step::Opened(0), "Closed"),
-        (Step::Take(1), "Nothing"),
-        (Step::Guest(1, 0), "Refused(Malformed)"),
-        (Step::Call(1, 1, 1, 0), "Refused(Malformed)"),
-        (Step::Guest(1, 5), "Done"),
-        (Step::Guest(1, 6), "Refused(Malformed)"),
-        (Step::Call(1, 5, 1, 0), "Refused(Malformed)"),
-        (Step::Call(1, 6, 3, 2), "Refused(Malformed)"),
-        (Step::Call(1, 6, 4, 3), "Refused(Malformed)"),
-        (Step::Response(1, 6), "Refused(Malformed)"),
-        (Step::Call(1, 6, 1, 0), "Task(ReqNo(6))"),
-        (Step::Work(1, 5), "Nothing"),
-        (Step::Work(1, 6), "Done"),
-        (Step::Work(1, 6), "Nothing"),
-    ];
-    play_all(&rt, rt.alloc(), &mut hub, &rows)?;
+    play_all(&rt, rt.alloc(), &mut hub, &REFUSALS)?;
     assert_eq!(rt; hub.journal().len(), 2);
     Ok(())
 }
@@ -99,43 +187,9 @@ fn refusals_change_nothing(rt: HostRuntime) -> Result<(), Fail> {
 #[test]
 fn processes_come_and_go(rt: HostRuntime) -> Result<(), Fail> {
     let mut hub = Hub::fresh(rt.alloc())?;
-    let rows = [
-        (Step::Opened(1), "Nothing"),
-        (Step::Guest(1, 1), "Done"),
-        (Step::Call(1, 2, 1, 0), "Task(ReqNo(2))"),
-        (Step::Call(1, 3, 3, 1), "Task(ReqNo(3))"),
-        (Step::Call(1, 9, 99, 0), "Task(ReqNo(9))"),
-        (Step::Work(1, 2), "Done"),
-        (Step::Work(1, 9), "Done"),
-        (Step::Work(1, 3), "Done"),
-        (Step::Take(1), "Out(Frame { number: ReqNo(1), body: Hello { pid: Pid(2) } })"),
-        (Step::Take(1), "Out(Frame { number: ReqNo(2), body: Answered(Answer { err: 0, ret0: 2, ret1: 0, place: Place(1) }) })"),
-        (Step::Take(1), "Out(Frame { number: ReqNo(9), body: Answered(Answer { err: 78, ret0: 0, ret1: 0, place: Place(2) }) })"),
-        (Step::Take(1), "Out(Frame { number: ReqNo(3), body: Answered(Answer { err: 9, ret0: 0, ret1: 0, place: Place(3) }) })"),
-        (Step::Take(1), "Nothing"),
-        (Step::Opened(2), "Nothing"),
-        (Step::Guest(2, 1), "Done"),
-        (Step::Take(2), "Out(Frame { number: ReqNo(1), body: Hello { pid: Pid(3) } })"),
-        (Step::Ended(1), "Nothing"),
-        (Step::Take(1), "Closed"),
-        (Step::Call(1, 10, 1, 0), "Closed"),
-        (Step::Ended(1), "Closed"),
-        (Step::Opened(3), "Nothing"),
-        (Step::Guest(3, 1), "Done"),
-        (Step::Take(3), "Out(Frame { number: ReqNo(1), body: Hello { pid: Pid(2) } })"),
-    ];
-    play_all(&rt, rt.alloc(), &mut hub, &rows)?;
-    let journal = [
-        "Pid(0) Request(ConnNo(1), ReqNo(1)) Attach",
-        "Pid(2) Request(ConnNo(1), ReqNo(2)) Sys(Getpid)",
-        "Pid(2) Request(ConnNo(1), ReqNo(9)) Sys(Unknown { num: 99, words: Words { items: [] } })",
-        "Pid(2) Request(ConnNo(1), ReqNo(3)) Sys(Close { fd: 3 })",
-        "Pid(0) Request(ConnNo(2), ReqNo(1)) Attach",
-        "Pid(2) End(ConnNo(1)) Exit",
-        "Pid(0) Request(ConnNo(3), ReqNo(1)) Attach",
-    ];
-    assert_eq!(rt; hub.journal().len(), journal.len());
-    for (entry, want) in hub.journal().iter().zip(journal.iter()) {
+    play_all(&rt, rt.alloc(), &mut hub, &GUESTS)?;
+    assert_eq!(rt; hub.journal().len(), JOURNAL.len());
+    for (entry, want) in hub.journal().iter().zip(JOURNAL.iter()) {
         let shown = format!(in rt.alloc(); "{:?} {:?} {:?}", entry.pid, entry.who, entry.op)?;
         assert_eq!(rt; shown.as_str(), *want);
     }
@@ -155,20 +209,6 @@ fn limits(rt: HostRuntime) -> Result<(), Fail> {
         let reply = hub.play(event(alloc, Step::Call(7, number, 1, 0))?);
         assert!(rt; matches!(reply, Reply::Task(_)), "call {number}");
     }
-    let rows = [
-        (Step::Opened(257), "Nothing"),
-        (Step::Guest(257, 1), "Refused(Malformed)"),
-        (Step::Call(7, 66, 1, 0), "Refused(Malformed)"),
-        (Step::Work(7, 2), "Done"),
-        (Step::Call(7, 66, 1, 0), "Refused(Malformed)"),
-        (Step::Take(7), "Out(Frame { number: ReqNo(1), body: Hello { pid: Pid(8) } })"),
-        (Step::Call(7, 66, 1, 0), "Refused(Malformed)"),
-        (Step::Take(7), "Out(Frame { number: ReqNo(2), body: Answered(Answer { err: 0, ret0: 8, ret1: 0, place: Place(256) }) })"),
-        (Step::Call(7, 66, 1, 0), "Task(ReqNo(66))"),
-        (Step::Ended(7), "Nothing"),
-        (Step::Guest(257, 1), "Done"),
-        (Step::Take(257), "Out(Frame { number: ReqNo(1), body: Hello { pid: Pid(8) } })"),
-    ];
-    play_all(&rt, alloc, &mut hub, &rows)?;
+    play_all(&rt, alloc, &mut hub, &LIMITS)?;
     Ok(())
 }

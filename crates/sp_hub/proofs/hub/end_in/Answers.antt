@@ -27,4 +27,4 @@ returns-clause-sound c =
     let there = here c.args.connections.now.items c.deref.result.now c.in-Some.place x _ c.deref.ensures.value c.in-Some.ensures.within c.index_mut-connection.ensures.value in
     let is = c.requires.sound.each c.in-Some.place x there in
     plays_sound m c.in-Some.place x (end_step c.args.kernel.now x) c.end.result c.end.new.kernel c.end.new.connection c.requires.sound there
-      (λ fit. end_keeps c.args.kernel.now x is (owner_at m c.in-Some.place x c.requires.sound there)) c.end.ensures.fit c.end.ensures.step
+    (λ fit. end_keeps c.args.kernel.now x is (owner_at m c.in-Some.place x c.requires.sound there)) c.end.ensures.fit c.end.ensures.step

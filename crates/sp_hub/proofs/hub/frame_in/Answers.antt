@@ -21,4 +21,4 @@ returns-clause-sound c =
     let there = here c.args.connections.now.items c.deref.result.now c.in-Some.place x _ c.deref.ensures.value c.in-Some.ensures.within c.index_mut-connection.ensures.value in
     let is = c.requires.sound.each c.in-Some.place x there in
     plays_sound m c.in-Some.place x (frame_step c.args.kernel.now x c.args.frame.now) c.frame.result c.frame.new.kernel c.frame.new.connection c.requires.sound there
-      (λ fit. frame_keeps c.args.kernel.now x c.args.frame.now is (owner_at m c.in-Some.place x c.requires.sound there) fit) c.frame.ensures.fit c.frame.ensures.step
+    (λ fit. frame_keeps c.args.kernel.now x c.args.frame.now is (owner_at m c.in-Some.place x c.requires.sound there) fit) c.frame.ensures.fit c.frame.ensures.step

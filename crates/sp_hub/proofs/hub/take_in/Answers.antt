@@ -13,4 +13,4 @@ returns-clause-sound c journal sound =
     let is = sound.each c.in-Some.place x there in
     let keeps = take_keeps journal x is (owner_at m c.in-Some.place x sound there) in
     sound_step m c.in-Some.place x c.take.new.connection journal sound there
-      (step_keeps journal x (take_step journal x) c.take.result journal c.take.new.connection keeps (c.take.ensures journal))
+    (step_keeps journal x (take_step journal x) c.take.result journal c.take.new.connection keeps (c.take.ensures journal))

@@ -33,4 +33,4 @@ returns-clause-sound c =
     let there = here c.args.connections.now.items c.deref.result.now c.in-Some.place x _ c.deref.ensures.value c.in-Some.ensures.within c.index_mut-connection.ensures.value in
     let is = c.requires.sound.each c.in-Some.place x there in
     plays_sound m c.in-Some.place x (work_step c.args.kernel.now x c.args.number) c.work.result c.work.new.kernel c.work.new.connection c.requires.sound there
-      (λ fit. work_keeps c.args.kernel.now x c.args.number is (owner_at m c.in-Some.place x c.requires.sound there) fit) c.work.ensures.fit c.work.ensures.step
+    (λ fit. work_keeps c.args.kernel.now x c.args.number is (owner_at m c.in-Some.place x c.requires.sound there) fit) c.work.ensures.fit c.work.ensures.step
