@@ -1,5 +1,5 @@
 -- What reading a whole source, and writing all of a text, leave behind.
-use Rattle.std.specs.Prelude.{◌≡◌, ℕ, ◌+◌, ◌≤◌, ◌<◌, Option, Some, None, List, length, take, ⊤}
+use Rattle.std.specs.Prelude.{◌≡◌, ℕ, ◌≤◌, ◌<◌, Option, Some, None, List, length, take, ⊤}
 use Rattle.std.specs.Io.KnownBytes.{Appends, Consumes}
 use Rattle.sp_io.specs.declared.fault.IoFault.{IoFault}
 use Rattle.sp_io.specs.declared.fault.IoFault.TheVariants as part

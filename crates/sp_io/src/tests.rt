@@ -8,7 +8,7 @@ use std::alloc::Global;
 use std::io::{self, ErrorKind, Read, Write};
 use std::test::Fail;
 
-/// What `take_all` gives of so many bytes 7, where the calls of these numbers fail: how many bytes, or why none.
+/// What `take_all` gives of so many bytes, where the calls of these numbers fail: their count, or why none.
 fn taken_count(
     alloc: Global,
     bytes: usize,

@@ -41,8 +41,9 @@ impl From<IoFault> for TakeFault {
 
 /// Reads a source to its end: all that it has left, which is at most `most` bytes.
 ///
-/// TooLong comes exactly where more were left, and Failed only where a read failed. What was read
-/// before an error is lost; no more than `most + 1` bytes are taken in any case.
+/// TooLong comes only where more are left, and then no text is answered; Failed comes only where a
+/// read failed. What was read before an error is lost. In any case no more than `most + 1` bytes are
+/// taken: reading stops at the first piece that passes `most`.
 pub fn take_all<S: Source>(alloc: Global, source: &mut S, most: u32) -> Result<Octets, TakeFault>
     requires { S.is_done source.old ≡ false }
 

@@ -1,7 +1,5 @@
-use Rattle.std.proofs.Common.{◌≡◌, ℕ, ◌++◌, List, Option, Some, None, OnErr, Result, Err, Ok, length, take, drop, arith, refl, sym, subst, ap, ◌∙◌, append_assoc}
+use Rattle.std.proofs.Common.{◌≡◌, ◌++◌, OnErr, Result, Err, Ok, take, drop, arith, sym, ap, ◌∙◌, append_assoc}
 use Rattle.std.proofs.lemmas.List.{take-append-drop}
-use Rattle.std.specs.Io.KnownBytes.{Appends, Keeps}
-use Rattle.sp_io.specs.Whole.{AppendsFirst}
 use Rattle.sp_io.proofs.Known.{appends_then, appends_front}
 use Rattle.sp_io.proofs.whole.put_all.Goals as goal
 
