@@ -1,5 +1,5 @@
 -- What the kernel holds after an operation.
-use Rattle.std.proofs.Common.{◌≡◌, List, [], ◌∷◌, ◌++◌, length, Some, None, refl, sym, ap, subst, ◌∙◌}
+use Rattle.std.proofs.Common.{◌≡◌, List, [], ◌∷◌, ◌++◌, length, Some, None, refl, sym, subst, ◌∙◌}
 use Rattle.sp_base.specs.declared.names.Answer.{Answer}
 use Rattle.sp_base.specs.declared.names.Pid.{Pid}
 use Rattle.kern_model.specs.declared.journal.Entry.{Entry}
@@ -9,7 +9,7 @@ use Rattle.kern_model.specs.declared.operation.Op.{Op}
 use Rattle.kern_model.specs.declared.outcome.Outcome.{Outcome}
 use Rattle.kern_model.specs.State.{State}
 use Rattle.kern_model.specs.Act.{act}
-use Rattle.kern_model.specs.Journal.{FitsPid, FitsIns, IsLegal, state_after, next_entry}
+use Rattle.kern_model.specs.Journal.{FitsPid, FitsIns, IsLegal, state_after}
 use Rattle.sp_hub.specs.declared.kernel.Acted.{Acted}
 use Rattle.sp_hub.specs.declared.kernel.Acted.TheVariants.{Done, NotReady, NoMemory}
 use Rattle.sp_hub.specs.Kernel.{answer_at}

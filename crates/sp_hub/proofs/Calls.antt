@@ -1,10 +1,8 @@
 -- Lists of open calls.
-use Rattle.std.proofs.Common.{◌≡◌, ◌≢◌, ℕ, zero, suc, ◌+◌, ◌<◌, ◌≤◌, Bool, true, false, List, [], ◌∷◌, ◌++◌, Some, refl, sym, ap, subst, ◌∙◌, arith}
-use Rattle.std.specs.Prelude.{◌==◌, ◌||◌, remove, slice_get, IsTrue}
+use Rattle.std.proofs.Common.{◌≡◌, ◌≢◌, ℕ, zero, suc, ◌<◌, ◌≤◌, Bool, true, false, List, [], ◌∷◌, ◌++◌, Some, refl, subst, arith}
+use Rattle.std.specs.Prelude.{◌==◌, ◌||◌, remove, slice_get}
 use Rattle.std.specs.List.{AllByRecursion}
 use Rattle.std.proofs.lemmas.Bool.Decides.{nat_tests}
-use Rattle.kern_model.specs.Act.{is_built}
-use Rattle.sp_frames.specs.declared.frame.Frame.{Frame}
 use Rattle.sp_hub.specs.declared.connection.Condition.{Condition}
 use Rattle.sp_hub.specs.declared.connection.Condition.TheVariants.{Fresh, Live, InExec, Left, Draining, Closed}
 use Rattle.sp_hub.specs.declared.connection.OpenCall.{OpenCall}

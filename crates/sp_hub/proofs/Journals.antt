@@ -1,6 +1,5 @@
 -- One entry more in a journal.
-use Rattle.std.proofs.Common.{◌≡◌, List, [], ◌∷◌, ◌++◌, length, Some, None, IsSome, refl, sym, ap, subst, ◌∙◌}
-use Rattle.sp_base.specs.declared.names.Answer.{Answer}
+use Rattle.std.proofs.Common.{◌≡◌, List, [], ◌∷◌, ◌++◌, Some, refl, sym, ap, ◌∙◌}
 use Rattle.sp_base.specs.declared.names.Pid.{Pid}
 use Rattle.kern_model.specs.declared.journal.Entry.{Entry}
 use Rattle.kern_model.specs.declared.journal.Who.{Who}
@@ -8,8 +7,8 @@ use Rattle.kern_model.specs.declared.operation.Ins.{Ins}
 use Rattle.kern_model.specs.declared.operation.Op.{Op}
 use Rattle.kern_model.specs.declared.outcome.Outcome.{Outcome}
 use Rattle.kern_model.specs.State.{State, opening}
-use Rattle.kern_model.specs.Act.{Step, act}
-use Rattle.kern_model.specs.Journal.{FitsPid, FitsIns, Follows, IsLegal, IsLegalFrom, after_entry, state_after, state_from, state_of_step, entry_of_step, next_entry}
+use Rattle.kern_model.specs.Act.{act}
+use Rattle.kern_model.specs.Journal.{FitsPid, FitsIns, Follows, IsLegal, IsLegalFrom, after_entry, state_after, state_from, state_of_step}
 
 pub state_from-push : (s : State) (entries : List Entry) (e : Entry) → state_from s (entries ++ e ∷ []) ≡ after_entry (state_from s entries) e
 state_from-push s [] e = refl

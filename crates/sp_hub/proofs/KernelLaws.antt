@@ -1,11 +1,11 @@
 -- Laws of the kernel: which processes are live after an operation, and what an attach answers.
-use Rattle.std.proofs.Common.{◌≡◌, ◌≢◌, ◌⊎◌, inl, inr, ℕ, zero, suc, ◌+◌, ◌<◌, ◌≤◌, Bool, true, false, cond, List, [], ◌∷◌, ◌++◌, length, get_or, Option, Some, None, IsSome, refl, sym, ap, subst, ◌∙◌, arith, drop, replicate, length-drop}
+use Rattle.std.proofs.Common.{◌≡◌, ◌≢◌, ◌⊎◌, inl, inr, ℕ, zero, suc, ◌+◌, ◌<◌, true, false, List, [], ◌∷◌, ◌++◌, length, get_or, Option, Some, None, IsSome, refl, sym, ap, subst, ◌∙◌, arith, drop, length-drop}
 use Rattle.std.specs.Prelude.{slice_set, is_none, IsTrue}
 use Rattle.std.specs.List.{position_from}
 use Rattle.std.proofs.lemmas.List.{length-set, get_or-drop, get_or-set_same, get_or-set_other}
 use Rattle.sp_base.specs.declared.call.Call.{Call}
 use Rattle.sp_base.specs.declared.call.Call.TheVariants.{Getpid, Close, Unknown}
-use Rattle.sp_base.specs.declared.errno.Errno.TheVariants.{Ebadf, Enosys, Eagain}
+use Rattle.sp_base.specs.declared.errno.Errno.TheVariants.{Ebadf, Eagain}
 use Rattle.sp_base.specs.declared.names.Pid.{Pid}
 use Rattle.kern_model.specs.declared.journal.Entry.{Entry}
 use Rattle.kern_model.specs.declared.journal.Who.{Who}
@@ -16,10 +16,10 @@ use Rattle.kern_model.specs.declared.operation.Op.TheVariants.{Sys, Attach, Fork
 use Rattle.kern_model.specs.declared.outcome.Outcome.{Outcome}
 use Rattle.kern_model.specs.declared.plain.Row.{Row}
 use Rattle.kern_model.specs.Table.{at, lowest_unused}
-use Rattle.kern_model.specs.Outcome.{success, failure}
+use Rattle.kern_model.specs.Outcome.{success}
 use Rattle.kern_model.specs.State.{State, Process, opening, fresh_process, rows_of, replace_rows, with_process, with_row}
-use Rattle.kern_model.specs.Act.{Step, act, act_op, act_call, is_built, act_close, act_attach, act_exit, answered, failed, or_fail}
-use Rattle.kern_model.specs.Journal.{IsLegal, IsLegalFrom, Follows, after_entry, state_after, state_from, state_of_step, entry_of_step, next_entry}
+use Rattle.kern_model.specs.Act.{Step, act, act_op, act_call, is_built, act_attach, act_exit, answered, or_fail}
+use Rattle.kern_model.specs.Journal.{after_entry, state_after, state_from, state_of_step, entry_of_step, next_entry}
 use Rattle.sp_hub.proofs.Journals.{entry, state_after-push, after_entry-entry}
 
 -- ---- tables

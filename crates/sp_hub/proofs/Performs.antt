@@ -1,12 +1,9 @@
 -- The steps that perform an operation.
-use Rattle.std.proofs.Common.{◌≡◌, ℕ, ◌<◌, ◌^◌, List, [], ◌∷◌, ◌++◌, Option, Some, None, length, refl, sym, ap, subst, ◌∙◌, arith}
-use Rattle.std.specs.List.{AllByRecursion}
+use Rattle.std.proofs.Common.{◌≡◌, ℕ, ◌<◌, ◌^◌, List, [], ◌∷◌, ◌++◌, Option, Some, refl, sym, ap, ◌∙◌, arith}
 use Rattle.std.specs.Prelude.{remove, slice_get}
 use Rattle.sp_base.specs.declared.names.Answer.{Answer}
-use Rattle.sp_base.specs.declared.names.ReqNo.{ReqNo}
 use Rattle.sp_base.specs.declared.names.Pid.{Pid}
 use Rattle.sp_frames.specs.declared.frame.Frame.{Frame}
-use Rattle.sp_frames.specs.Grammar.{Fits}
 use Rattle.kern_model.specs.declared.journal.Entry.{Entry}
 use Rattle.kern_model.specs.declared.journal.Who.{Who}
 use Rattle.kern_model.specs.declared.journal.Who.TheVariants.{Request, End}

@@ -1,9 +1,7 @@
 -- What a sound machine never answers.
-use Rattle.std.proofs.Common.{◌≡◌, ◌≢◌, ◌⊎◌, inl, inr, ℕ, Bool, true, false, cond, List, [], ◌∷◌, Option, Some, None, refl, sym, ap, subst, ◌∙◌}
-use Rattle.std.specs.Prelude.{nat_lt, slice_get, IsTrue}
-use Rattle.std.specs.List.{AllByRecursion, list_all}
-use Rattle.sp_base.specs.declared.call.Call.{Call}
-use Rattle.sp_base.specs.declared.call.Call.TheVariants.{Getpid, Close, Unknown}
+use Rattle.std.proofs.Common.{◌≡◌, ◌≢◌, inl, inr, ℕ, List, [], ◌∷◌, Option, Some, None, refl, sym, ap, subst, ◌∙◌}
+use Rattle.std.specs.Prelude.{slice_get, IsTrue}
+use Rattle.std.specs.List.{AllByRecursion}
 use Rattle.sp_base.specs.declared.names.ConnNo.{ConnNo}
 use Rattle.sp_base.specs.declared.names.Pid.{Pid}
 use Rattle.sp_base.specs.declared.names.ReqNo.{ReqNo}
@@ -13,20 +11,19 @@ use Rattle.kern_model.specs.declared.journal.Entry.{Entry}
 use Rattle.kern_model.specs.declared.journal.Who.{Who}
 use Rattle.kern_model.specs.declared.journal.Who.TheVariants.{Request}
 use Rattle.kern_model.specs.declared.operation.Op.TheVariants as op
-use Rattle.kern_model.specs.Act.{Step, act, act_call, act_attach, is_built}
+use Rattle.kern_model.specs.Act.{Step, act_call, act_attach, is_built}
 use Rattle.kern_model.specs.Journal.{state_after, entry_of_step, next_entry}
 use Rattle.sp_hub.specs.declared.connection.Condition.{Condition}
-use Rattle.sp_hub.specs.declared.connection.Condition.TheVariants.{Closed, Draining}
+use Rattle.sp_hub.specs.declared.connection.Condition.TheVariants.{Closed}
 use Rattle.sp_hub.specs.declared.connection.Connection.{Connection}
 use Rattle.sp_hub.specs.declared.connection.OpenCall.{OpenCall}
-use Rattle.sp_hub.specs.declared.event.Event.{Event}
 use Rattle.sp_hub.specs.declared.event.Event.TheVariants as event
 use Rattle.sp_hub.specs.declared.event.Reply.{Reply}
 use Rattle.sp_hub.specs.declared.event.Reply.TheVariants as reply
 use Rattle.sp_hub.specs.declared.verdict.Verdict.{Verdict}
 use Rattle.sp_hub.specs.declared.verdict.Verdict.TheVariants as verdict
 use Rattle.sp_hub.specs.Connection.{process_in, place_of_call}
-use Rattle.sp_hub.specs.Machine.{Machine, Played, PlaysOrStays, place_of, step_of_found, step_at, on_connection, opened, played}
+use Rattle.sp_hub.specs.Machine.{Machine, Played, PlaysOrStays, place_of, step_of_found, step_at, played}
 use Rattle.sp_hub.specs.Sound.{IsConnection, IsSound}
 use Rattle.sp_hub.specs.Step as step
 use Rattle.sp_hub.specs.Step.{attach_step, frame_step_by, frame_step, perform_step, work_call, work_at, work_step, take_from, take_step, end_by, end_step, no_process, nothing_read}

@@ -1,9 +1,8 @@
 -- Each step of a connection keeps what the machine needs.
-use Rattle.std.proofs.Common.{◌≡◌, ◌≢◌, ◌⊎◌, inl, inr, ℕ, zero, suc, ◌+◌, ◌<◌, ◌≤◌, Bool, true, false, List, [], ◌∷◌, ◌++◌, length, Option, Some, None, IsSome, refl, sym, ap, subst, ◌∙◌, arith}
-use Rattle.std.specs.Prelude.{slice_get, remove, IfSome, IsTrue}
+use Rattle.std.proofs.Common.{◌≡◌, ◌≢◌, inl, inr, ℕ, ◌<◌, ◌≤◌, List, [], ◌∷◌, ◌++◌, Option, Some, None, IsSome, refl, sym, ap, subst, ◌∙◌, arith}
+use Rattle.std.specs.Prelude.{slice_get, remove, IsTrue}
 use Rattle.std.specs.List.{AllByRecursion}
 use Rattle.sp_base.specs.declared.call.Call.{Call}
-use Rattle.sp_base.specs.declared.names.ConnNo.{ConnNo}
 use Rattle.sp_base.specs.declared.names.Pid.{Pid}
 use Rattle.sp_base.specs.declared.names.ReqNo.{ReqNo}
 use Rattle.sp_frames.specs.declared.frame.Frame.{Frame}
@@ -19,19 +18,19 @@ use Rattle.kern_model.specs.State.{State, fresh_process, with_process}
 use Rattle.kern_model.specs.Act.{is_built}
 use Rattle.kern_model.specs.Journal.{FitsPid, FitsIns, Follows, state_after, next_entry}
 use Rattle.sp_hub.specs.declared.connection.Condition.{Condition}
-use Rattle.sp_hub.specs.declared.connection.Condition.TheVariants.{Fresh, Live, InExec, Left, Draining, Closed}
+use Rattle.sp_hub.specs.declared.connection.Condition.TheVariants.{Fresh, Live, InExec, Closed}
 use Rattle.sp_hub.specs.declared.connection.Connection.{Connection}
 use Rattle.sp_hub.specs.declared.connection.OpenCall.{OpenCall}
 use Rattle.sp_hub.specs.declared.verdict.Verdict.{Verdict}
 use Rattle.sp_hub.specs.declared.verdict.Verdict.TheVariants as verdict
 use Rattle.sp_hub.specs.Connection.{over, process_in, place_of_call}
-use Rattle.sp_hub.specs.Step.{Step, nothing_read, no_process, hello, response, attach_step, open_step, frame_step_by, frame_step, perform_step, work_call, work_at, work_step, take_from, take_step, exit_of, with_entry, end_by, end_step}
+use Rattle.sp_hub.specs.Step.{nothing_read, no_process, hello, attach_step, open_step, frame_step_by, frame_step, perform_step, work_call, work_at, work_step, take_from, take_step, exit_of, with_entry, end_by, end_step}
 use Rattle.sp_hub.specs.Verdict.{verdict_of}
-use Rattle.sp_hub.specs.Sound.{IsReached, IsConnection, NotOpen, HasOwnNumbers, Spends}
+use Rattle.sp_hub.specs.Sound.{IsReached, IsConnection, NotOpen, Spends}
 use Rattle.sp_hub.proofs.Calls.{not_open_none, not_open_push, not_open_remove, own_none, own_push, own_remove, open_at, gone_at, reached_remove, reached_fresh}
 use Rattle.sp_hub.proofs.Lists.{all_at, all_remove, all_push, all_map, all_none}
-use Rattle.sp_hub.proofs.Journals.{entry, follows_by}
-use Rattle.sp_hub.proofs.KernelLaws.{Nexts, nexts, attach_does, call_live, exit_live, lowest_unused_is, live_put, put_live, process_numbers}
+use Rattle.sp_hub.proofs.Journals.{follows_by}
+use Rattle.sp_hub.proofs.KernelLaws.{Nexts, nexts, attach_does, call_live, exit_live, lowest_unused_is, live_put, put_live}
 use Rattle.sp_hub.proofs.Sound.{IsProcess, IsAbout, Adds, Keeps}
 use Rattle.sp_hub.proofs.Verdicts.{Attaches, attaches, Opens, opens}
 

@@ -1,5 +1,5 @@
 -- What a verdict tells of the frame and the connection.
-use Rattle.std.proofs.Common.{◌≡◌, ◌≢◌, ℕ, ◌<◌, Bool, true, false, List, length, Option, Some, None, refl, sym, ap, ◌∙◌, arith, cond}
+use Rattle.std.proofs.Common.{◌≡◌, ◌≢◌, ℕ, ◌<◌, Bool, true, false, List, length, Option, Some, None, refl, arith, cond}
 use Rattle.std.specs.Prelude.{nat_le, not, is_none, IsTrue}
 use Rattle.std.proofs.lemmas.Bool.Decides.{nat_tests}
 use Rattle.sp_base.specs.Call.{wanted_words, call_of}

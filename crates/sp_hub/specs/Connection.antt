@@ -8,7 +8,7 @@ use Rattle.sp_frames.specs.declared.frame.Body.TheVariants.{Answered}
 use Rattle.sp_frames.specs.declared.frame.Body.{Body}
 use Rattle.sp_frames.specs.declared.frame.Frame.{Frame}
 use Rattle.sp_hub.specs.declared.connection.Condition.{Condition}
-use Rattle.sp_hub.specs.declared.connection.Condition.TheVariants.{Fresh, Live, InExec, Left, Draining, Closed}
+use Rattle.sp_hub.specs.declared.connection.Condition.TheVariants.{Fresh, Live, InExec, Draining, Closed}
 use Rattle.sp_hub.specs.declared.connection.Connection.{Connection}
 
 -- a connection that was just opened

@@ -2,12 +2,7 @@
 use Rattle.std.specs.Prelude.{◌≡◌, ℕ, List, [], ◌∷◌, ◌++◌, length, Option, Some}
 use Rattle.sp_base.specs.declared.names.Answer.{Answer}
 use Rattle.kern_model.specs.declared.journal.Entry.{Entry}
-use Rattle.kern_model.specs.declared.journal.Who.{Who}
-use Rattle.kern_model.specs.declared.operation.Ins.{Ins}
-use Rattle.kern_model.specs.declared.operation.Op.{Op}
 use Rattle.kern_model.specs.declared.outcome.Outcome.{Outcome}
-use Rattle.kern_model.specs.Journal.{next_entry}
-use Rattle.sp_base.specs.declared.names.Pid.{Pid}
 
 -- an outcome's numbers, and the place of its entry
 abbrev pub answer_at : Outcome → ℕ → Answer

@@ -1,6 +1,6 @@
-ghost use Rattle.std.specs.Prelude.{◌≡◌, ◌==◌, nat_le, length, ◌<◌, IfSome, count_by};
-ghost use Rattle.sp_hub.specs.Connection.{fresh_connection, over, process_in, is_fresh, takes_nothing, is_response, open_count, place_of_call};
+ghost use Rattle.std.specs.Prelude.{◌≡◌, ◌<◌, ◌==◌, nat_le, length, count_by, IfSome};
 ghost use Rattle.std.specs.List.{position_from};
+ghost use Rattle.sp_hub.specs.Connection.{fresh_connection, over, process_in, is_fresh, takes_nothing, is_response, open_count, place_of_call};
 
 use sp_base::{Call, ConnNo, Items, Pid, ReqNo};
 use sp_frames::{Body, Frame};
@@ -26,16 +26,20 @@ pub enum Condition {
 /// A call that was asked for and isn't performed yet.
 #[derive(Debug, Drop)]
 pub struct OpenCall {
+    /// The number of its request, which its response will repeat.
     pub number: ReqNo,
+    /// What was asked for.
     pub call: Call,
 }
 
 /// One connection of the server.
 #[derive(Debug, Drop)]
 pub struct Connection {
+    /// Its number, which no other connection of the server has.
     pub no: ConnNo,
+    /// How far it is.
     pub condition: Condition,
-    /// The highest request number so far, 0 before the first request.
+    /// The highest number of a request that was taken, 0 before the first one.
     pub last: ReqNo,
     /// The open calls, in the order in which they were asked for.
     pub calls: Items<OpenCall>,
@@ -45,7 +49,7 @@ pub struct Connection {
 
 impl Condition {
     /// The process that a connection of this condition speaks for.
-    pub fn process(self) -> Option<Pid>
+    pub(crate) fn process(self) -> Option<Pid>
         ensures { result ≡ process_in self }
     {
         match self {
@@ -55,14 +59,14 @@ impl Condition {
     }
 
     /// Whether no handshake was taken yet.
-    pub fn is_fresh(self) -> bool
+    pub(crate) fn is_fresh(self) -> bool
         ensures { result ≡ is_fresh self }
     {
         matches!(self, Condition::Fresh)
     }
 
     /// Whether no frame is taken any more.
-    pub fn takes_nothing(self) -> bool
+    pub(crate) fn takes_nothing(self) -> bool
         ensures { result ≡ takes_nothing self }
     {
         matches!(self, Condition::Draining | Condition::Closed)
@@ -98,7 +102,7 @@ fn place_of(calls: &[OpenCall], number: ReqNo) -> Option<usize>
 
 impl Connection {
     /// A connection that was just opened.
-    pub fn fresh(alloc: Global, no: ConnNo) -> Connection
+    pub(crate) fn fresh(alloc: Global, no: ConnNo) -> Connection
         ensures { result ≡ fresh_connection no }
     {
         Connection {
@@ -111,7 +115,7 @@ impl Connection {
     }
 
     /// Whether 64 calls are open, or more; a performed call is open until its response is handed out.
-    pub fn is_busy(&self) -> bool
+    pub(crate) fn is_busy(&self) -> bool
         ensures { result ≡ nat_le 64 (open_count self.now) }
     {
         let waiting = self.calls.len();
@@ -119,7 +123,7 @@ impl Connection {
     }
 
     /// Where the open call of a number stands.
-    pub fn place_of_call(&self, number: ReqNo) -> Option<usize>
+    pub(crate) fn place_of_call(&self, number: ReqNo) -> Option<usize>
         ensures which { result ≡ place_of_call self.now number }
         ensures within { IfSome result (λ place. place < length self.now.calls) }
     {
@@ -127,7 +131,7 @@ impl Connection {
     }
 
     /// Ends it: it drops its calls and frames, and takes nothing more.
-    pub fn end(&mut self)
+    pub(crate) fn end(&mut self)
         ensures { self.new ≡ over self.old }
     {
         self.condition = Condition::Closed;

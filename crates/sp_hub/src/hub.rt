@@ -143,7 +143,7 @@ fn take_in(connections: &mut Vec<Connection>, no: ConnNo) -> Reply
 }
 
 impl Hub {
-    /// A server to which nothing happened.
+    /// A server to which nothing happened: no connection, no process and an empty journal.
     pub fn fresh(alloc: Global) -> Result<Hub, NoMemory>
         ensures { IfOk result (λ hub. hub ≡ fresh_machine) }
     {
@@ -162,14 +162,19 @@ impl Hub {
         self.kernel.journal()
     }
 
-    /// A connection opens.
+    /// A connection opens, and Nothing is answered.
+    ///
+    /// Closed comes where its number isn't above every number that was opened before. After it and after NoMemory all is as it was.
     pub fn opened(&mut self, no: ConnNo) -> Reply
         ensures plays { PlaysOrStays (played self.old (Event.Opened no)) self.old result self.new }
     {
         open_in(&self.kernel, &mut self.connections, no)
     }
 
-    /// A frame comes over a connection.
+    /// A frame comes over a connection: Done answers a handshake, which is performed, and Task a call, which is open from then on.
+    ///
+    /// Refused says that the frame is none that this connection may send now, and Closed that it takes no frame, or was never opened.
+    /// After these and after NoMemory all is as it was. By now no frame makes a cookie, and the salt isn't used.
     pub fn frame(&mut self, no: ConnNo, frame: Frame, salt: u64) -> Reply
         ensures plays { PlaysOrStays (played self.old (Event.Frame no frame salt)) self.old result self.new }
         ensures ready { result ≢ Reply.NotReady }
@@ -178,7 +183,9 @@ impl Hub {
         frame_in(&mut self.kernel, &mut self.connections, no, &frame)
     }
 
-    /// An open call of a connection is worked.
+    /// An open call of a connection is worked: Done says that it was performed and that its response is queued.
+    ///
+    /// Nothing comes where no such call is open. After it and after NoMemory all is as it was; a call that got no memory stays open.
     pub fn work(&mut self, no: ConnNo, number: ReqNo) -> Reply
         ensures plays { PlaysOrStays (played self.old (Event.Work no number)) self.old result self.new }
         ensures ready { result ≢ Reply.NotReady }
@@ -186,7 +193,9 @@ impl Hub {
         work_in(&mut self.kernel, &mut self.connections, no, number)
     }
 
-    /// The oldest queued frame of a connection is handed out; this takes no memory.
+    /// The oldest queued frame of a connection is handed out, as Out; this takes no memory.
+    ///
+    /// Nothing comes where no frame is queued, and Closed where the connection is over or was never opened. After these all is as it was.
     pub fn take(&mut self, no: ConnNo) -> Reply
         ensures plays { (result, self.new) ≡ played self.old (Event.Take no) }
         ensures fits { (frame : Frame) → result ≡ Reply.Out frame → Fits frame }
@@ -195,7 +204,9 @@ impl Hub {
         take_in(&mut self.connections, no)
     }
 
-    /// The input of a connection ended.
+    /// The input of a connection ended, and Nothing is answered: its process exits, and its open calls and queued frames are dropped.
+    ///
+    /// Closed comes where the connection is over already or was never opened. After it and after NoMemory all is as it was.
     pub fn ended(&mut self, no: ConnNo, finish: Finish) -> Reply
         ensures plays { PlaysOrStays (played self.old (Event.Ended no finish)) self.old result self.new }
     {
@@ -203,7 +214,7 @@ impl Hub {
         end_in(&mut self.kernel, &mut self.connections, no)
     }
 
-    /// An event happens.
+    /// An event happens; the answer is that of the method of the event's name.
     pub fn play(&mut self, event: Event) -> Reply
         ensures plays { PlaysOrStays (played self.old event) self.old result self.new }
         ensures ready { result ≢ Reply.NotReady }

@@ -1,4 +1,4 @@
-use Rattle.std.proofs.Common.{refl, sym, ◌∙◌}
+use Rattle.std.proofs.Common.{refl, sym}
 use Rattle.sp_hub.proofs.Performs.{exited}
 use Rattle.sp_hub.proofs.ends.exit.Goals as goal
 

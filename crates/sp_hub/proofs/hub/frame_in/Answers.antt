@@ -2,7 +2,7 @@ use Rattle.std.proofs.Common.{sym}
 use Rattle.sp_hub.specs.declared.event.Reply.TheVariants.{Closed}
 use Rattle.sp_hub.specs.Machine.{Machine, machine_of}
 use Rattle.sp_hub.specs.Step.{frame_step}
-use Rattle.sp_hub.proofs.Machines.{here, owner_at, speaks, plays, plays_sound}
+use Rattle.sp_hub.proofs.Machines.{here, owner_at, plays, plays_sound}
 use Rattle.sp_hub.proofs.Steps.{frame_keeps}
 use Rattle.sp_hub.proofs.hub.frame_in.Goals as goal
 
