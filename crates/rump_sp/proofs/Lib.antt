@@ -1,0 +1,6 @@
+pub mod WireLaws
+pub mod MachineLaws
+pub mod NameLaws
+pub mod CallLaws
+pub mod RunLaws
+pub mod TopLaws

@@ -1,0 +1,76 @@
+-- How far the server is with its one guest: an aid of the runner's contracts.
+use Rattle.std.specs.Prelude.{◌≡◌, ℕ, ◌+◌, ◌<◌, List, [], ◌∷◌, ◌++◌, length, Option, None, take}
+use Rattle.sp_base.specs.declared.call.Call.{Call}
+use Rattle.sp_base.specs.declared.names.Answer.{Answer}
+use Rattle.sp_base.specs.declared.names.Pid.{Pid}
+use Rattle.sp_base.specs.Call.{call_number, call_words}
+use Rattle.sp_frames.specs.declared.frame.Body.TheVariants as body
+use Rattle.sp_frames.specs.declared.frame.Frame.{Frame}
+use Rattle.sp_frames.specs.Framing.{Held}
+use Rattle.kern_model.specs.declared.journal.Entry.{Entry}
+use Rattle.kern_model.specs.declared.operation.Op.TheVariants.{Sys}
+use Rattle.kern_model.specs.declared.outcome.Outcome.{Outcome}
+use Rattle.sp_hub.specs.declared.connection.Condition.TheVariants.{Live}
+use Rattle.sp_hub.specs.declared.connection.Connection.{Connection}
+use Rattle.sp_hub.specs.Kernel.{answer_at}
+use Rattle.sp_hub.specs.declared.event.Event.TheVariants.{Take}
+use Rattle.sp_hub.specs.declared.event.Reply.TheVariants as reply
+use Rattle.sp_hub.specs.Machine.{Machine, played}
+use Rattle.guest_script.specs.declared.script.Line.{Line}
+use Rattle.rump_sp.specs.Run.{guest_connection, request_key, guest_entry, process_of, attach_entry, call_entries, exit_entry, rows_from}
+
+-- nothing is under way on one direction of the link
+pub record IsIdle (held : Held) : Type 0 where
+  pub ready : held.ready ≡ []
+  pub rest : held.rest ≡ []
+  pub stop : held.stop ≡ None
+
+-- the frame that asks for a call
+abbrev pub request_frame : ℕ → Call → Frame
+request_frame n call = record { number = record { 0 = n }; body = body.Sys (call_number call) (call_words call) }
+
+-- the guest's connection between two requests
+abbrev pub resting : Pid → ℕ → Connection
+resting pid last = record { no = guest_connection; condition = Live pid; last = record { 0 = last }; calls = []; queue = [] }
+
+-- the server between two requests of its one guest
+abbrev pub at_rest : List Entry → Pid → ℕ → Machine
+at_rest journal pid last = record { journal = journal; connections = resting pid last ∷ [] }
+
+-- the guest has this process, its last request has this number, and nothing is under way
+abbrev pub IsAt : Machine → Pid → ℕ → Type 0
+IsAt m pid last = m.connections ≡ resting pid last ∷ []
+
+-- nothing is under way, and the guest's last request has a number below n
+pub record IsReady (m : Machine) (n : ℕ) : Type 0 where
+  pub pid : Pid
+  pub last : ℕ
+  pub below : last < n
+  pub at : IsAt m pid last
+
+-- the server has a frame for the guest
+abbrev pub HasAnswer : Machine → Type 0
+HasAnswer m = (frame : Frame) × (m' : Machine) × (played m (Take guest_connection) ≡ (reply.Out frame, m'))
+
+-- the process is made, and nothing else
+pub record IsAttached (pid : Pid) (m : Machine) : Type 0 where
+  pub outcome : Outcome
+  pub process : pid ≡ process_of outcome
+  pub machine : m ≡ at_rest (attach_entry outcome ∷ []) pid 1
+
+-- a call is performed and answered
+pub record IsCalled (old : Machine) (pid : Pid) (n : ℕ) (call : Call) (answer : Answer) (new : Machine) : Type 0 where
+  pub outcome : Outcome
+  pub answered : answer ≡ answer_at outcome (length old.journal)
+  pub machine : new ≡ at_rest (old.journal ++ guest_entry pid (request_key n) (Sys call) outcome ∷ []) pid n
+
+-- the guest's connection ended, and its process exited
+abbrev pub HasEnded : Machine → Pid → Machine → Type 0
+HasEnded old pid new = (outcome : Outcome) × (new.journal ≡ old.journal ++ exit_entry pid outcome ∷ [])
+
+-- the first lines are performed, and these are their rows
+pub record AreCalled (old : Machine) (pid : Pid) (guest : List ℕ) (lines : List Line) (text : List ℕ) (new : Machine) : Type 0 where
+  pub outcomes : List Outcome
+  pub each : length outcomes ≡ length lines
+  pub machine : new ≡ at_rest (old.journal ++ call_entries pid 2 lines outcomes) pid (length lines + 1)
+  pub rows : text ≡ rows_from guest 1 lines outcomes

@@ -1,0 +1,45 @@
+//! The run of a section, and the rows that tell it.
+ghost use Rattle.std.specs.Prelude.{◌≡◌, ◌∷◌, [], length, IfOk};
+ghost use Rattle.std.specs.List.{AllByRecursion};
+ghost use Rattle.sp_base.specs.declared.names.Pid.{Pid};
+ghost use Rattle.guest_script.specs.Script.{IsAskable, IsRunnable};
+ghost use Rattle.rump_sp.specs.Run.{ShowsRun};
+ghost use Rattle.rump_sp.specs.Guest.{IsAt, IsReady, AreCalled};
+
+use crate::bench::Bench;
+use guest_script::{Section, put_row};
+use sp_base::{NoMemory, Octets};
+use std::alloc::Global;
+
+/// Performs the calls of a section's lines, and gives their rows.
+fn call_all(alloc: Global, bench: &mut Bench, section: &Section) -> Result<Octets, NoMemory>
+    requires askable { AllByRecursion IsAskable section.now.lines }
+    requires ready { (pid : Pid) × IsAt bench.old.hub pid 1 }
+    requires begun { length bench.old.hub.journal ≡ 1 }
+    ensures { IfOk result (λ rows. (pid : Pid) → IsAt bench.old.hub pid 1 → AreCalled bench.old.hub pid section.now.name section.now.lines rows bench.new.hub) }
+{
+    let mut rows = Octets::none(alloc);
+    let lines = section.lines.slice();
+    for (i, line) in lines.iter().enumerate() {
+        let number = i as u64 + 1;
+        let answer = bench.call(number + 1, &line.call)?;
+        let name = section.name.slice();
+        put_row(alloc, &mut rows, name, number, line.text.slice(), &answer)?;
+    }
+    Ok(rows)
+}
+
+/// Runs a section through a server of its own, and gives the rows of its lines.
+/// The only error is want of memory.
+pub fn run(alloc: Global, section: &Section) -> Result<Octets, NoMemory>
+    requires { IsRunnable section.now }
+    ensures { IfOk result (ShowsRun section.now) }
+{
+    let mut bench = Bench::fresh(alloc)?;
+    let name = Octets::of(alloc, section.name.slice())?;
+    bench.attach(name)?;
+    let rows = call_all(alloc, &mut bench, section)?;
+    bench.end()?;
+    let _journal = bench.hub.journal();
+    Ok(rows)
+}
