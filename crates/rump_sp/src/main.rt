@@ -4,6 +4,8 @@
 mod bench;
 mod failure;
 mod run;
+#[cfg(test)]
+mod tests;
 mod top;
 mod wire;
 
