@@ -16,6 +16,7 @@ use std::env;
 use std::process::ExitCode;
 
 const USAGE: u8 = 64;
+
 const FAILED: u8 = 75;
 
 /// What the command line asks for.

@@ -31,7 +31,11 @@ pub enum Way {
 fn piece_size(piece: usize, bytes: &[u8]) -> usize
     ensures { 0 < result }
 {
-    if piece == 0 { bytes.len().max(1) } else { piece }
+    if piece == 0 {
+        bytes.len().max(1)
+    } else {
+        piece
+    }
 }
 
 /// Takes every frame that is ready, and answers how many there were.

@@ -1,13 +1,12 @@
 -- The machine with its one guest, event by event.
-use Rattle.std.proofs.Common.{◌≡◌, ℕ, ◌+◌, ◌<◌, ◌≤◌, Bool, true, false, cond, List, [], ◌∷◌, ◌++◌, length, Option, Some, None, refl, sym, ap, ◌∙◌, arith}
+use Rattle.std.proofs.Common.{◌≡◌, ℕ, ◌<◌, Bool, true, false, cond, List, [], ◌∷◌, ◌++◌, length, Option, Some, None, refl, ap, ◌∙◌, arith}
 use Rattle.std.proofs.lemmas.Bool.Decides.{nat_tests}
 use Rattle.std.specs.Prelude.{◌==◌, nat_le, IsTrue, if◌then◌else◌}
-use Rattle.sp_base.specs.Call.{IsProper, wanted_words}
+use Rattle.sp_base.specs.Call.{IsProper}
 use Rattle.sp_base.specs.declared.call.Call.{Call}
 use Rattle.sp_base.specs.declared.call.Call.TheVariants.{Getpid, Close, Unknown}
 use Rattle.sp_base.specs.declared.errno.Errno.TheVariants.{Ebadf, Enosys}
 use Rattle.sp_base.specs.declared.names.Pid.{Pid}
-use Rattle.sp_base.specs.declared.names.ReqNo.{ReqNo}
 use Rattle.sp_frames.specs.declared.frame.Body.TheVariants as body
 use Rattle.sp_frames.specs.declared.frame.Frame.{Frame}
 use Rattle.kern_model.specs.Act.{Step, act, is_built, or_fail, answered}
@@ -30,7 +29,7 @@ use Rattle.sp_hub.specs.declared.event.Reply.{Reply}
 use Rattle.sp_hub.specs.declared.event.Reply.TheVariants as reply
 use Rattle.sp_hub.specs.declared.verdict.Verdict.{Verdict}
 use Rattle.sp_hub.specs.declared.verdict.Verdict.TheVariants as verdict
-use Rattle.rump_sp.specs.Run.{guest_connection, request_key, guest_entry, attach_entry, exit_entry}
+use Rattle.rump_sp.specs.Run.{guest_connection, request_key, guest_entry, attach_entry}
 use Rattle.rump_sp.specs.Guest.{request_frame, resting, at_rest, IsAt, HasAnswer, HasEnded}
 
 -- the guest is connected, and nothing else

@@ -11,10 +11,9 @@ use Rattle.kern_model.specs.declared.outcome.Outcome.{Outcome}
 use Rattle.sp_hub.specs.Kernel.{answer_at}
 use Rattle.sp_hub.specs.Machine.{Machine}
 use Rattle.guest_script.specs.Row.{row_text}
-use Rattle.guest_script.specs.Script.{IsAskable}
 use Rattle.guest_script.specs.declared.script.Line.{Line}
 use Rattle.guest_script.specs.declared.script.Section.{Section}
-use Rattle.rump_sp.specs.Run.{request_key, guest_entry, process_of, attach_entry, call_entries, exit_entry, run_journal, rows_from, ShowsRun}
+use Rattle.rump_sp.specs.Run.{request_key, guest_entry, attach_entry, call_entries, exit_entry, rows_from, ShowsRun}
 use Rattle.rump_sp.specs.Guest.{at_rest, IsAt, IsReady, IsAttached, IsCalled, AreCalled, HasEnded}
 use Rattle.rump_sp.proofs.MachineLaws.{rest_is}
 

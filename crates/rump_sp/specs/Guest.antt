@@ -1,5 +1,5 @@
 -- How far the server is with its one guest: an aid of the runner's contracts.
-use Rattle.std.specs.Prelude.{◌≡◌, ℕ, ◌+◌, ◌<◌, List, [], ◌∷◌, ◌++◌, length, Option, None, take}
+use Rattle.std.specs.Prelude.{◌≡◌, ℕ, ◌+◌, ◌<◌, List, [], ◌∷◌, ◌++◌, length, None}
 use Rattle.sp_base.specs.declared.call.Call.{Call}
 use Rattle.sp_base.specs.declared.names.Answer.{Answer}
 use Rattle.sp_base.specs.declared.names.Pid.{Pid}

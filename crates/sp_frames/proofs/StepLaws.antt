@@ -17,7 +17,7 @@ use Rattle.sp_frames.specs.Feeding.{IsFront}
 use Rattle.sp_frames.specs.Reading.{header_at, has_size, body_at, row_at, has_kind, row_or, sized, row_of, framed, step_by, step_of}
 use Rattle.sp_frames.proofs.FieldLaws.{IsBytes-drop, IsBytes-take}
 use Rattle.sp_frames.proofs.HeaderLaws.{header_len, header_again, header_back, header_below}
-use Rattle.sp_frames.proofs.TableLaws.{IsRow, row_is, class_in-most, type-most}
+use Rattle.sp_frames.proofs.TableLaws.{row_is, class_in-most, type-most}
 use Rattle.sp_frames.proofs.FoundLaws.{IsOf, body_found}
 use Rattle.sp_frames.proofs.ReadLaws.{row_for, body_read}
 

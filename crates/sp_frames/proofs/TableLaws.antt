@@ -1,22 +1,12 @@
 -- The row of a class, a type and a word, and the errors that a frame carries.
-use Rattle.std.proofs.Common.{◌≡◌, ◌⊎◌, inl, inr, zero, suc, ℕ, ◌+◌, ◌-◌, ◌*◌, ◌/◌, ◌^◌, ◌<◌, ◌≤◌, ◌==◌, ◌&&◌, ◌||◌, Bool, true, false, cond, ltb, List, [], ◌∷◌, ◌++◌, length, take, drop, get_or, Option, Some, None, option_map, find, refl, sym, ap, ◌∙◌, subst, arith, replicate, length-append}
-use Rattle.std.specs.List.{flat_map, list_any, AllByRecursion}
-use Rattle.std.proofs.lemmas.Bool.{ltb-true, lt-ltb}
+use Rattle.std.proofs.Common.{◌≡◌, ◌⊎◌, inl, inr, zero, suc, ℕ, ◌+◌, ◌-◌, ◌<◌, ◌≤◌, ◌==◌, ◌&&◌, ◌||◌, Bool, true, false, cond, List, [], ◌∷◌, get_or, Option, Some, None, find, refl, sym, ap, ◌∙◌, arith}
 use Rattle.std.proofs.lemmas.Bool.Decides.{nat_tests}
-use Rattle.std.proofs.lemmas.List.{append-nil, length-replicate, length-drop}
 use Rattle.sp_base.specs.declared.names.SpError.{SpError}
 use Rattle.sp_base.specs.declared.names.SpError.TheVariants as error
 use Rattle.sp_base.specs.Names.{sp_error_number}
-use Rattle.sp_frames.specs.declared.frame.Body.{Body}
-use Rattle.sp_frames.specs.declared.frame.Body.TheVariants as body
 use Rattle.sp_frames.specs.declared.rows.Row.{Row}
 use Rattle.sp_frames.specs.declared.rows.Row.TheVariants as row
-use Rattle.sp_frames.specs.Fields.{le32, le64, of32, of64, IsBytes, Number, n16, n32, n64, NumberFits, front_bytes}
-use Rattle.sp_frames.specs.Grammar.{cookie_numbers, is_answer, is_text_answer, may_be_refused, parts_of, payload_of, BodyFits, RowFits}
-use Rattle.sp_frames.specs.Faults.{IsOfKind, HasKind, HasWord, HasSize, HasPayload}
-use Rattle.sp_frames.specs.Reading.{front_at, front_end, nth, rows, class_in, has_type, has_word, within, has_size, front_in, words_at, cookie_from, body_if, errors, error_of, body_from, body_at, row_length, is_of, row_at, has_kind}
-use Rattle.sp_frames.proofs.FieldLaws.{IsBytes-drop, front_len, front_again, front_back, front_below, front_whole, no_items}
-use Rattle.sp_frames.proofs.WordLaws.{words_len, words_back, words_below, words_size, words_again, each_below, all_below}
+use Rattle.sp_frames.specs.Reading.{rows, class_in, has_type, has_word, within, errors, error_of, is_of, row_at}
 
 pub same_number : (n m : ℕ) → (n == m) ≡ true → m ≡ n
 same_number n m e = grind (arith, nat_tests)
