@@ -67,7 +67,7 @@ says m m1 m2 m3 r q g n call a said out =
 
 -- a machine at rest has one guest
 same_guest : (m : Machine) (a b : Pid) (i j : ℕ) → IsAt m a i → IsAt m b j → a ≡ b
-same_guest m a b i j p q = live_is a b i j (sym p ∙ q)
+same_guest m a b i j p q = live_is a b i j (ap (λ (x : Machine). x.connections) (sym p ∙ q))
   where
     live_is : (a b : Pid) (i j : ℕ) → resting a i ∷ [] ≡ resting b j ∷ [] → a ≡ b
     live_is a b i j e =

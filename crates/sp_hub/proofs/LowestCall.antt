@@ -40,9 +40,12 @@ first_above calls t above lt h =
 
 -- a lower one
 pub one_lower : (calls : List OpenCall) (t : OpenCall) (above r : ReqNo) → above.0 < t.number.0 → t.number.0 < r.0 → IsLowest calls above (Some r) → IsLowest (calls ++ t ∷ []) above (Some t.number)
-one_lower calls t above r above_lt lt h =
-    (above_lt, open_last calls t, all_push (λ u. (u.number.0 ≤ above.0) ⊎ (t.number.0 ≤ u.number.0)) calls t
-    (all_map (λ u. (u.number.0 ≤ above.0) ⊎ (r.0 ≤ u.number.0)) (λ u. (u.number.0 ≤ above.0) ⊎ (t.number.0 ≤ u.number.0)) (λ u c. elim c [ inl le ↦ inl le | inr le ↦ inr (omega arith) ]) calls h.2) (inr (omega arith)))
+one_lower calls t above r above_lt lt h = (
+  above_lt,
+  open_last calls t,
+  all_push (λ u. (u.number.0 ≤ above.0) ⊎ (t.number.0 ≤ u.number.0)) calls t
+      (all_map (λ u. (u.number.0 ≤ above.0) ⊎ (r.0 ≤ u.number.0)) (λ u. (u.number.0 ≤ above.0) ⊎ (t.number.0 ≤ u.number.0)) (λ u c. elim c [ inl le ↦ inl le | inr le ↦ inr (omega arith) ]) calls h.2) (inr (omega arith)),
+)
 
 -- one call more of those that were looked at
 pub lowest_more : (calls : List OpenCall) (i : ℕ) (t d : OpenCall) (above : ReqNo) (lowest lowest' : Option ReqNo) → i < length calls → t ≡ get_or calls i d → IsLowest (take i calls) above lowest

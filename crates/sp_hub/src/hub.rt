@@ -263,12 +263,7 @@ impl Hub {
         if self.halted {
             return Reply::Closed;
         }
-        end_in(
-            &mut self.kernel,
-            &mut self.connections,
-            no,
-            Finish::Inside,
-        )
+        end_in(&mut self.kernel, &mut self.connections, no, Finish::Inside)
     }
 
     /// The server is to take nothing more: from then on every event is answered Closed, and changes nothing.
