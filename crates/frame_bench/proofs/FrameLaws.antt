@@ -1,16 +1,20 @@
 -- Counting the frames that go through a framer.
-use Rattle.std.proofs.Common.{◌≡◌, ℕ, zero, suc, ◌+◌, ◌*◌, ◌^◌, ◌<◌, ◌≤◌, List, [], ◌∷◌, ◌++◌, length, get_or, refl, sym, ap, subst, ◌∙◌, append_assoc, length-append, arith}
+use Rattle.std.proofs.Common.{◌≡◌, ℕ, zero, suc, ◌+◌, ◌*◌, ◌^◌, ◌<◌, ◌≤◌, List, [], ◌∷◌, ◌++◌, length, get_or, replicate, refl, sym, ap, subst, ◌∙◌, append_assoc, length-append, arith}
 use Rattle.std.specs.List.{flat_map, AllByRecursion}
-use Rattle.std.proofs.lemmas.List.{append-nil}
+use Rattle.std.proofs.lemmas.List.{append-nil, length-replicate}
 use Rattle.sp_frames.specs.declared.frame.Frame.{Frame}
 use Rattle.sp_frames.specs.Grammar.{header_of, payload_of, header_bytes, spelling, Fits}
 use Rattle.sp_frames.specs.Stream.{IsWhole}
 use Rattle.sp_frames.specs.Framing.{Held, Follows}
+use Rattle.sp_frames.specs.Fields.{IsBytes, n64}
+use Rattle.sp_frames.proofs.ReadLaws.{front_size}
 use Rattle.sp_frames.proofs.HeaderLaws.{header_len}
 use Rattle.sp_frames.proofs.WordLaws.{words_size}
 use Rattle.sp_frames.proofs.StreamLaws.{each-append, one_whole}
 use Rattle.sp_frames.proofs.FeedLaws.{nothing}
-use Rattle.frame_bench.specs.Frames.{frame_at, frames_below, counted, HandsOut, Fed, Counts}
+use Rattle.frame_bench.specs.Frames.{frame_at, frames_below, frames_out, counted, HandsOut, Fed, Counts, Handles}
+use Rattle.frame_bench.specs.declared.passing.Way.{Way}
+use Rattle.frame_bench.specs.declared.passing.Way.TheVariants.{Feed, Copy, Spell}
 
 pub hands_none : (held : Held) → HandsOut held held 0
 hands_none held fed handed follows = ([], subst (λ (frames : List Frame). Follows fed frames held) (sym (append-nil handed)) follows, refl)
@@ -50,41 +54,64 @@ fed_all bytes held count so_far =
 
 -- ---- the stream
 
--- each frame has 32 bytes
-frame_size : (n : ℕ) → length (spelling (frame_at n)) ≡ 32
-frame_size n = omega (arith, length-append (header_bytes (header_of (frame_at n))) (payload_of (frame_at n).body), header_len (header_of (frame_at n)), words_size (n ∷ []))
+-- each frame has 32 bytes and those that it puts
+frame_size : (put n : ℕ) → length (spelling (frame_at put n)) ≡ 32 + put
+frame_size zero n =
+    let f = frame_at zero n in
+    omega (arith, length-append (header_bytes (header_of f)) (payload_of f.body), header_len (header_of f), words_size (n ∷ []))
+frame_size (suc k) n =
+    let f = frame_at (suc k) n in
+    let zeros : List ℕ = replicate (suc k) 0 in
+    let len : length zeros ≡ suc k = length-replicate (suc k) 0 in
+    omega (arith, length-append (header_bytes (header_of f)) (payload_of f.body), header_len (header_of f), front_size (n64 n ∷ []) zeros, len)
 
 streams : (fs : List Frame) (f : Frame) → flat_map spelling (fs ++ f ∷ []) ≡ flat_map spelling fs ++ spelling f
 streams [] f = append-nil (spelling f)
 streams (g ∷ fs) f = ap (λ (x : List ℕ). spelling g ++ x) (streams fs f) ∙ sym (append_assoc (spelling g) (flat_map spelling fs) (spelling f))
 
 -- one more frame is spelled
-pub stream_more : (bytes next : List ℕ) (n : ℕ) → bytes ≡ flat_map spelling (frames_below n) → next ≡ bytes ++ spelling (frame_at n) → next ≡ flat_map spelling (frames_below (suc n))
-stream_more bytes next n e more = more ∙ ap (λ (x : List ℕ). x ++ spelling (frame_at n)) e ∙ sym (streams (frames_below n) (frame_at n))
+pub stream_more : (put : ℕ) (bytes next : List ℕ) (n : ℕ) → bytes ≡ flat_map spelling (frames_below put n) → next ≡ bytes ++ spelling (frame_at put n) → next ≡ flat_map spelling (frames_below put (suc n))
+stream_more put bytes next n e more = more ∙ ap (λ (x : List ℕ). x ++ spelling (frame_at put n)) e ∙ sym (streams (frames_below put n) (frame_at put n))
 
-pub stream_size : (n : ℕ) → length (flat_map spelling (frames_below n)) ≡ 32 * n
-stream_size zero = refl
-stream_size (suc n) = ap length (streams (frames_below n) (frame_at n)) ∙ omega (arith, length-append (flat_map spelling (frames_below n)) (spelling (frame_at n)), frame_size n, stream_size n)
+pub stream_size : (put n : ℕ) → length (flat_map spelling (frames_below put n)) ≡ (32 + put) * n
+stream_size put zero = omega arith
+stream_size put (suc n) =
+    ap length (streams (frames_below put n) (frame_at put n)) ∙ length-append (flat_map spelling (frames_below put n)) (spelling (frame_at put n))
+    ∙ grind (arith, frame_size put n, stream_size put n)
 
-frames_count : (n : ℕ) → length (frames_below n) ≡ n
-frames_count zero = refl
-frames_count (suc n) = omega (arith, length-append (frames_below n) (frame_at n ∷ []), frames_count n)
+frames_count : (put n : ℕ) → length (frames_below put n) ≡ n
+frames_count put zero = refl
+frames_count put (suc n) = omega (arith, length-append (frames_below put n) (frame_at put n ∷ []), frames_count put n)
 
 below_one : (n : ℕ) → n < 2 ^ 64 → (i : ℕ) → get_or (n ∷ []) i 0 < 2 ^ 64
 below_one n lt zero = lt
 below_one n lt (suc i) = omega arith
 
-frame_fits : (n : ℕ) → n < 2 ^ 64 → Fits (frame_at n)
-frame_fits n lt = record { number = lt; body = record { word = omega arith; front = tt; row = record { few = omega arith; fits = below_one n lt } } }
+zeros : (n : ℕ) → IsBytes (replicate n 0)
+zeros zero i = omega arith
+zeros (suc n) zero = omega arith
+zeros (suc n) (suc i) = zeros n i
 
-frames_fit : (n : ℕ) → n ≤ 2 ^ 64 → AllByRecursion Fits (frames_below n)
-frames_fit zero le = tt
-frames_fit (suc n) le = each-append (frames_below n) (frame_at n ∷ []) (frames_fit n (omega arith)) (frame_fits n (omega arith), tt)
+pub frame_fits : (put n : ℕ) → put ≤ 131040 → n < 2 ^ 64 → Fits (frame_at put n)
+frame_fits zero n le lt = record { number = lt; body = record { word = omega arith; front = tt; row = record { few = omega arith; fits = below_one n lt } } }
+frame_fits (suc k) n le lt =
+    let nothing : List ℕ = replicate (suc k) 0 in
+    let len : length nothing ≡ suc k = length-replicate (suc k) 0 in
+    record { number = lt; body = record { word = omega arith; front = (lt, tt); row = (omega arith, omega (arith, len), (omega (arith, len, le), zeros (suc k))) } }
+
+frames_fit : (put n : ℕ) → put ≤ 131040 → n ≤ 2 ^ 64 → AllByRecursion Fits (frames_below put n)
+frames_fit put zero few le = tt
+frames_fit put (suc n) few le = each-append (frames_below put n) (frame_at put n ∷ []) (frames_fit put n few (omega arith)) (frame_fits put n few (omega arith), tt)
 
 -- as many frames come out as were spelled
-pub counts_all : (n count : ℕ) → n < 2 ^ 32 → Counts (flat_map spelling (frames_below n)) count → count ≡ n
-counts_all n count lt counts =
-    let whole : IsWhole (flat_map spelling (frames_below n)) (frames_below n) [] = record { whole = sym (append-nil (flat_map spelling (frames_below n))); each = frames_fit n (omega arith); none = nothing.none } in
-    let same = one_whole (flat_map spelling (frames_below n)) counts.0 (frames_below n) counts.1 [] counts.2 whole in
-    let size : length counts.0 ≡ n = ap length same.0 ∙ frames_count n in
+counts_all : (put n count : ℕ) → put ≤ 131040 → n < 2 ^ 32 → Counts (flat_map spelling (frames_below put n)) count → count ≡ n
+counts_all put n count few lt counts =
+    let whole : IsWhole (flat_map spelling (frames_below put n)) (frames_below put n) [] = record { whole = sym (append-nil (flat_map spelling (frames_below put n))); each = frames_fit put n few (omega arith); none = nothing.none } in
+    let same = one_whole (flat_map spelling (frames_below put n)) counts.0 (frames_below put n) counts.1 [] counts.2 whole in
+    let size : length counts.0 ≡ n = ap length same.0 ∙ frames_count put n in
     counts.3 ∙ omega (arith, size)
+
+pub handled : (put n : ℕ) (way : Way) (count : ℕ) → put ≤ 131040 → n < 2 ^ 32 → Handles way (flat_map spelling (frames_below put n)) count → count ≡ frames_out way n
+handled put n (Feed piece) count few lt is = counts_all put n count few lt is
+handled put n Copy count few lt is = is
+handled put n Spell count few lt is = is

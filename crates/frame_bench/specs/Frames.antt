@@ -1,18 +1,32 @@
 -- The frames that are fed, and how they are counted.
-use Rattle.std.specs.Prelude.{◌≡◌, ℕ, zero, suc, ◌-◌, ◌^◌, List, [], ◌∷◌, ◌++◌, length, min}
-use Rattle.sp_frames.specs.declared.frame.Body.TheVariants.{Sys}
+use Rattle.std.specs.Prelude.{◌≡◌, ℕ, zero, suc, ◌-◌, ◌^◌, List, [], ◌∷◌, ◌++◌, length, min, replicate}
+use Rattle.frame_bench.specs.declared.passing.Way.{Way}
+use Rattle.frame_bench.specs.declared.passing.Way.TheVariants.{Feed, Copy, Spell}
+use Rattle.sp_frames.specs.declared.frame.Body.{Body}
+use Rattle.sp_frames.specs.declared.frame.Body.TheVariants.{Sys, Put}
 use Rattle.sp_frames.specs.declared.frame.Frame.{Frame}
 use Rattle.sp_frames.specs.Stream.{IsWhole}
 use Rattle.sp_frames.specs.Framing.{Held, Follows}
 
--- the request of a number: call 3 with the number as its word
-abbrev pub frame_at : ℕ → Frame
-frame_at number = record { number = record { 0 = number }; body = Sys 3 (number ∷ []) }
+-- what the frame of a number says: call 3 with the number as its word, or so many zeros to put at that address
+abbrev pub body_of : ℕ → ℕ → Body
+body_of zero number = Sys 3 (number ∷ [])
+body_of (suc put) number = Put 0 number (replicate (suc put) 0)
 
--- the requests of the numbers below a count, in order
-abbrev pub frames_below : ℕ → List Frame
-frames_below zero = []
-frames_below (suc count) = frames_below count ++ frame_at count ∷ []
+-- the frame of a number
+abbrev pub frame_at : ℕ → ℕ → Frame
+frame_at put number = record { number = record { 0 = number }; body = body_of put number }
+
+-- the frames of the numbers below a count, in order
+abbrev pub frames_below : ℕ → ℕ → List Frame
+frames_below put zero = []
+frames_below put (suc count) = frames_below put count ++ frame_at put count ∷ []
+
+-- how many frames come out
+abbrev pub frames_out : Way → ℕ → ℕ
+frames_out (Feed piece) count = count
+frames_out Copy count = 0
+frames_out Spell count = 0
 
 -- a count that stays at the largest number of 64 bits
 abbrev pub counted : ℕ → ℕ
@@ -30,3 +44,9 @@ Fed bytes rest held count =
 -- so many frames are spelled by the bytes
 abbrev pub Counts : List ℕ → ℕ → Type 0
 Counts bytes count = (frames : List Frame) × (rest : List ℕ) × IsWhole bytes frames rest × (count ≡ counted (length frames))
+
+-- so many frames come out of bytes that are treated in this way
+abbrev pub Handles : Way → List ℕ → ℕ → Type 0
+Handles (Feed piece) bytes count = Counts bytes count
+Handles Copy bytes count = count ≡ 0
+Handles Spell bytes count = count ≡ 0

@@ -1,8 +1,9 @@
 //! Bytes fed to a framer piece by piece.
-ghost use Rattle.std.specs.Prelude.{◌≡◌, ◌*◌, ◌<◌, [], IfOk};
-ghost use Rattle.frame_bench.specs.Frames.{HandsOut, Counts};
+ghost use Rattle.std.specs.Prelude.{◌≡◌, ◌+◌, ◌*◌, ◌<◌, ◌≤◌, [], IfOk};
+ghost use Rattle.frame_bench.specs.Frames.{frames_out, HandsOut, Counts, Handles};
 
 use crate::stream::stream;
+use sp_base::Octets;
 use sp_frames::{FrameFault, Framer};
 use std::alloc::Global;
 
@@ -13,6 +14,28 @@ pub struct Passed {
     pub frames: u64,
     /// How many bytes went in.
     pub bytes: u64,
+}
+
+/// What is done with the bytes of the frames.
+#[derive(Clone, Copy, Debug, PartialEq, Eq)]
+pub enum Way {
+    /// They are fed in pieces of this size; 0 is all at once.
+    Feed(usize),
+    /// They are copied once.
+    Copy,
+    /// Nothing.
+    Spell,
+}
+
+/// The size of a piece, which is not 0.
+fn piece_size(piece: usize, bytes: &[u8]) -> usize
+    ensures { 0 < result }
+{
+    if piece == 0 {
+        bytes.len().max(1)
+    } else {
+        piece
+    }
 }
 
 /// Takes every frame that is ready, and answers how many there were.
@@ -46,21 +69,32 @@ fn feed_all(alloc: Global, bytes: &[u8], size: usize) -> Result<u64, FrameFault>
     Ok(count)
 }
 
-/// Spells frames, feeds them in pieces of a size, and takes them all; the size 0 is all at once.
-///
-/// Each frame has 32 bytes. As many come out as went in.
-pub fn pass(alloc: Global, count: u32, piece: usize) -> Result<Passed, FrameFault>
-    ensures frames { IfOk result (λ passed. passed.frames ≡ count) }
-    ensures bytes { IfOk result (λ passed. passed.bytes ≡ 32 * count) }
+/// Does with bytes what the way says, and answers how many frames came out.
+fn handle(alloc: Global, way: Way, bytes: &[u8]) -> Result<u64, FrameFault>
+    ensures { IfOk result (Handles way bytes.now) }
 {
-    let text = stream(alloc, count)?;
+    match way {
+        Way::Feed(piece) => feed_all(alloc, bytes, piece_size(piece, bytes)),
+        Way::Copy => {
+            let _copy = Octets::of(alloc, bytes)?;
+            Ok(0)
+        }
+        Way::Spell => Ok(0),
+    }
+}
+
+/// Spells frames, and does with the bytes what the way says.
+///
+/// Each frame has 32 bytes and those that it puts, 131,040 at most. Where they are fed, as many
+/// come out as went in.
+pub fn pass(alloc: Global, count: u32, way: Way, put: u32) -> Result<Passed, FrameFault>
+    requires { put ≤ 131040 }
+    ensures frames { IfOk result (λ passed. passed.frames ≡ frames_out way count) }
+    ensures bytes { IfOk result (λ passed. passed.bytes ≡ (32 + put) * count) }
+{
+    let text = stream(alloc, count, put)?;
     let bytes = text.slice();
-    let size = if piece == 0 {
-        bytes.len().max(1)
-    } else {
-        piece
-    };
-    let frames = feed_all(alloc, bytes, size)?;
+    let frames = handle(alloc, way, bytes)?;
     Ok(Passed {
         frames,
         bytes: bytes.len() as u64,

@@ -1,5 +1,5 @@
 //! The frames that are fed, as bytes.
-ghost use Rattle.std.specs.Prelude.{◌≡◌, ◌*◌, length, IfOk};
+ghost use Rattle.std.specs.Prelude.{◌≡◌, ◌≤◌, ◌++◌, OnOk, IfOk};
 ghost use Rattle.std.specs.List.{flat_map};
 ghost use Rattle.sp_frames.specs.Grammar.{spelling, Fits};
 ghost use Rattle.frame_bench.specs.Frames.{frame_at, frames_below};
@@ -8,26 +8,47 @@ use sp_base::{NoMemory, Octets, ReqNo, Words};
 use sp_frames::{Body, Frame, encode};
 use std::alloc::Global;
 
-/// A request to close the descriptor of its own number: 24 bytes of header and one word.
-fn numbered(number: u64) -> Frame
-    ensures frame { result ≡ frame_at number }
-    ensures fits { Fits result }
+/// A frame of a number: a request to close the descriptor of that number, or one to put bytes there.
+fn numbered(alloc: Global, number: u64, put: u32) -> Result<Frame, NoMemory>
+    requires { put ≤ 131040 }
+    ensures frame { IfOk result (λ frame. frame ≡ frame_at put number) }
+    ensures fits { IfOk result Fits }
 {
-    let words = Words::of(&[number]);
-    let _ = words.slice();
-    Frame {
-        number: ReqNo(number),
-        body: Body::Sys { num: 3, words },
+    if put == 0 {
+        let words = Words::of(&[number]);
+        return Ok(Frame {
+            number: ReqNo(number),
+            body: Body::Sys { num: 3, words },
+        });
     }
+    let bytes = Octets::from_vec(vec![in alloc; 0u8; put as usize]?);
+    Ok(Frame {
+        number: ReqNo(number),
+        body: Body::Put {
+            index: 0,
+            addr: number,
+            bytes,
+        },
+    })
+}
+
+/// Appends the frame of a number.
+fn append(alloc: Global, bytes: &mut Octets, number: u64, put: u32) -> Result<(), NoMemory>
+    requires { put ≤ 131040 }
+    ensures { OnOk result (bytes.new ≡ bytes.old ++ spelling (frame_at put number)) }
+{
+    let frame = numbered(alloc, number, put)?;
+    encode(alloc, &frame, bytes)
 }
 
 /// The frames of the numbers below a count, as bytes.
-pub fn stream(alloc: Global, count: u32) -> Result<Octets, NoMemory>
-    ensures { IfOk result (λ bytes. bytes ≡ flat_map spelling (frames_below count)) }
+pub fn stream(alloc: Global, count: u32, put: u32) -> Result<Octets, NoMemory>
+    requires { put ≤ 131040 }
+    ensures { IfOk result (λ bytes. bytes ≡ flat_map spelling (frames_below put count)) }
 {
     let mut bytes = Octets::none(alloc);
     for number in 0..count {
-        encode(alloc, &numbered(u64::from(number)), &mut bytes)?;
+        append(alloc, &mut bytes, u64::from(number), put)?;
     }
     Ok(bytes)
 }

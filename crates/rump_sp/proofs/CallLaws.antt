@@ -1,5 +1,5 @@
 -- The steps of a handshake and of a call, together.
-use Rattle.std.proofs.Common.{◌≡◌, ℕ, ◌<◌, List, [], ◌∷◌, ◌++◌, length, refl, sym, ap, subst, ◌∙◌}
+use Rattle.std.proofs.Common.{◌≡◌, ℕ, List, [], ◌∷◌, ◌++◌, length, sym, ap, subst, ◌∙◌}
 use Rattle.std.specs.Prelude.{IsTrue}
 use Rattle.sp_base.specs.Call.{IsProper, call_number, call_words}
 use Rattle.sp_base.specs.declared.call.Call.{Call}
@@ -9,7 +9,6 @@ use Rattle.sp_frames.specs.declared.frame.Body.TheVariants as body
 use Rattle.sp_frames.specs.declared.frame.Frame.{Frame}
 use Rattle.kern_model.specs.Act.{is_built}
 use Rattle.kern_model.specs.Outcome.{success}
-use Rattle.kern_model.specs.declared.journal.Entry.{Entry}
 use Rattle.kern_model.specs.declared.operation.Op.TheVariants.{Sys}
 use Rattle.kern_model.specs.declared.outcome.Outcome.{Outcome}
 use Rattle.sp_hub.specs.Kernel.{answer_at}
@@ -68,7 +67,7 @@ says m m1 m2 m3 r q g n call a said out =
 
 -- a machine at rest has one guest
 same_guest : (m : Machine) (a b : Pid) (i j : ℕ) → IsAt m a i → IsAt m b j → a ≡ b
-same_guest m a b i j p q = live_is a b i j (sym p ∙ q)
+same_guest m a b i j p q = live_is a b i j (ap (λ (x : Machine). x.connections) (sym p ∙ q))
   where
     live_is : (a b : Pid) (i j : ℕ) → resting a i ∷ [] ≡ resting b j ∷ [] → a ≡ b
     live_is a b i j e =

@@ -1,13 +1,12 @@
 -- The machine with its one guest, event by event.
-use Rattle.std.proofs.Common.{◌≡◌, ℕ, ◌+◌, ◌<◌, ◌≤◌, Bool, true, false, cond, List, [], ◌∷◌, ◌++◌, length, Option, Some, None, refl, sym, ap, ◌∙◌, arith}
+use Rattle.std.proofs.Common.{◌≡◌, ℕ, ◌<◌, Bool, true, false, cond, List, [], ◌∷◌, ◌++◌, length, Option, Some, None, refl, sym, ap, ◌∙◌, arith}
 use Rattle.std.proofs.lemmas.Bool.Decides.{nat_tests}
 use Rattle.std.specs.Prelude.{◌==◌, nat_le, IsTrue, if◌then◌else◌}
-use Rattle.sp_base.specs.Call.{IsProper, wanted_words}
+use Rattle.sp_base.specs.Call.{IsProper}
 use Rattle.sp_base.specs.declared.call.Call.{Call}
 use Rattle.sp_base.specs.declared.call.Call.TheVariants.{Getpid, Close, Unknown}
 use Rattle.sp_base.specs.declared.errno.Errno.TheVariants.{Ebadf, Enosys}
 use Rattle.sp_base.specs.declared.names.Pid.{Pid}
-use Rattle.sp_base.specs.declared.names.ReqNo.{ReqNo}
 use Rattle.sp_frames.specs.declared.frame.Body.TheVariants as body
 use Rattle.sp_frames.specs.declared.frame.Frame.{Frame}
 use Rattle.kern_model.specs.Act.{Step, act, is_built, or_fail, answered}
@@ -20,7 +19,7 @@ use Rattle.kern_model.specs.declared.operation.Op.TheVariants.{Sys}
 use Rattle.kern_model.specs.declared.outcome.Outcome.{Outcome}
 use Rattle.kern_model.specs.declared.plain.Row.{Row}
 use Rattle.sp_hub.specs.Connection.{fresh_connection}
-use Rattle.sp_hub.specs.Machine.{Machine, Played, fresh_machine, played, after_step}
+use Rattle.sp_hub.specs.Machine.{Machine, Played, running, fresh_machine, played, after_step}
 use Rattle.sp_hub.specs.Step.{nothing_read, hello, response, frame_step_by, work_at, perform_step}
 use Rattle.sp_hub.specs.Verdict.{verdict_of}
 use Rattle.sp_hub.specs.declared.connection.OpenCall.{OpenCall}
@@ -30,28 +29,28 @@ use Rattle.sp_hub.specs.declared.event.Reply.{Reply}
 use Rattle.sp_hub.specs.declared.event.Reply.TheVariants as reply
 use Rattle.sp_hub.specs.declared.verdict.Verdict.{Verdict}
 use Rattle.sp_hub.specs.declared.verdict.Verdict.TheVariants as verdict
-use Rattle.rump_sp.specs.Run.{guest_connection, request_key, guest_entry, attach_entry, exit_entry}
+use Rattle.rump_sp.specs.Run.{guest_connection, request_key, guest_entry, attach_entry}
 use Rattle.rump_sp.specs.Guest.{request_frame, resting, at_rest, IsAt, HasAnswer, HasEnded}
 
 -- the guest is connected, and nothing else
 abbrev pub connected : Machine
-connected = record { journal = []; connections = fresh_connection guest_connection ∷ [] }
+connected = running [] (fresh_connection guest_connection ∷ [])
 
 -- the server has a frame for its guest
 abbrev pub holding : List Entry → Pid → ℕ → Frame → Machine
-holding journal pid last f = record { journal = journal; connections = record (resting pid last) { queue = f ∷ [] } ∷ [] }
+holding journal pid last f = running journal (record (resting pid last) { queue = f ∷ [] } ∷ [])
 
 -- a call of the guest is open
 abbrev pub asking : List Entry → Pid → ℕ → Call → Machine
-asking journal pid n call = record { journal = journal; connections = record (resting pid n) { calls = record { number = record { 0 = n }; call = call } ∷ [] } ∷ [] }
+asking journal pid n call = running journal (record (resting pid n) { calls = record { number = record { 0 = n }; call = call } ∷ [] } ∷ [])
 
 -- the request of a new guest
 abbrev pub guest_frame : List ℕ → Frame
 guest_frame name = record { number = record { 0 = 1 }; body = body.Guest name }
 
--- a machine at rest is its journal and its connection
-pub rest_is : (m : Machine) (pid : Pid) (last : ℕ) → IsAt m pid last → m ≡ at_rest m.journal pid last
-rest_is m pid last at = ap (λ connections. record { journal = m.journal; connections = connections }) at
+-- a machine at rest is at rest with its own journal
+pub rests : (m : Machine) (journal : List Entry) (pid : Pid) (last : ℕ) → m ≡ at_rest journal pid last → IsAt m pid last
+rests m journal pid last e = e ∙ ap (λ (j : List Entry). at_rest j pid last) (sym (ap (λ (x : Machine). x.journal) e))
 
 -- the connection opens
 pub opened_is : (m m' : Machine) (r : Reply) → m ≡ fresh_machine → (r, m') ≡ played m (event.Opened guest_connection) → (r ≡ reply.Nothing) × (m' ≡ connected)
@@ -108,7 +107,7 @@ pub asked_is : (m m' : Machine) (r : Reply) (pid : Pid) (last n : ℕ) (call : C
     → (r, m') ≡ played m (event.Frame guest_connection (request_frame n call) 0) → (r ≡ reply.Task (record { 0 = n })) × (m' ≡ asking m.journal pid n call)
 asked_is m m' r pid last n call proper built below at said =
     let open_call = ap (λ (v : Verdict). after_step (at_rest m.journal pid last) 0 (frame_step_by v m.journal (resting pid last) (request_frame n call))) (opens (state_after m.journal) pid last n call proper built below) in
-    let e : (r, m') ≡ (reply.Task (record { 0 = n }), asking m.journal pid n call) = said ∙ ap (λ (x : Machine). played x (event.Frame guest_connection (request_frame n call) 0)) (rest_is m pid last at) ∙ open_call in
+    let e : (r, m') ≡ (reply.Task (record { 0 = n }), asking m.journal pid n call) = said ∙ ap (λ (x : Machine). played x (event.Frame guest_connection (request_frame n call) 0)) at ∙ open_call in
     (ap (λ (p : Played). p.0) e, ap (λ (p : Played). p.1) e)
 
 -- a call that is built is performed in every state
@@ -138,5 +137,5 @@ worked_is m m' r journal pid n call built open_call said =
 -- the connection ends, and the process exits
 pub ended_is : (m m' : Machine) (r : Reply) (pid : Pid) (last : ℕ) → IsAt m pid last → (r, m') ≡ played m (event.Ended guest_connection Clean) → (r ≡ reply.Nothing) × HasEnded m pid m'
 ended_is m m' r pid last at said =
-    let e = said ∙ ap (λ (x : Machine). played x (event.Ended guest_connection Clean)) (rest_is m pid last at) in
+    let e = said ∙ ap (λ (x : Machine). played x (event.Ended guest_connection Clean)) at in
     (ap (λ (p : Played). p.0) e, (success 0, ap (λ (p : Played). p.1.journal) e))

@@ -11,12 +11,11 @@ use Rattle.kern_model.specs.declared.outcome.Outcome.{Outcome}
 use Rattle.sp_hub.specs.Kernel.{answer_at}
 use Rattle.sp_hub.specs.Machine.{Machine}
 use Rattle.guest_script.specs.Row.{row_text}
-use Rattle.guest_script.specs.Script.{IsAskable}
 use Rattle.guest_script.specs.declared.script.Line.{Line}
 use Rattle.guest_script.specs.declared.script.Section.{Section}
-use Rattle.rump_sp.specs.Run.{request_key, guest_entry, process_of, attach_entry, call_entries, exit_entry, run_journal, rows_from, ShowsRun}
+use Rattle.rump_sp.specs.Run.{request_key, guest_entry, attach_entry, call_entries, exit_entry, rows_from, ShowsRun}
 use Rattle.rump_sp.specs.Guest.{at_rest, IsAt, IsReady, IsAttached, IsCalled, AreCalled, HasEnded}
-use Rattle.rump_sp.proofs.MachineLaws.{rest_is}
+use Rattle.rump_sp.proofs.MachineLaws.{rests}
 
 -- what holds of each line holds of the line at a place
 pub line_at : (P : Line → Type 0) (lines : List Line) (i : ℕ) (line : Line) → AllByRecursion P lines → i < length lines → line ≡ get_or lines i line → P line
@@ -57,7 +56,7 @@ pub none_called : (m : Machine) (pid : Pid) (guest : List ℕ) (lines : List Lin
 none_called m pid guest lines rows at empty = record {
   outcomes = [];
   each = refl;
-  machine = rest_is m pid 1 at ∙ ap (λ (j : List Entry). at_rest j pid 1) (sym (append-nil m.journal));
+  machine = at ∙ ap (λ (j : List Entry). at_rest j pid 1) (sym (append-nil m.journal));
   rows = empty;
 }
 
@@ -65,7 +64,7 @@ none_called m pid guest lines rows at empty = record {
 pub ready_for : (m m1 : Machine) (pid : Pid) (guest : List ℕ) (lines : List Line) (rows : List ℕ) (i : ℕ) → i < length lines → AreCalled m pid guest (take i lines) rows m1 → IsReady m1 (i + 1 + 1)
 ready_for m m1 pid guest lines rows i lt so =
     let len : length (take i lines) ≡ i = omega (arith, length-take i lines) in
-    record { pid = pid; last = length (take i lines) + 1; below = omega arith; at = ap (λ (x : Machine). x.connections) so.machine }
+    record { pid = pid; last = length (take i lines) + 1; below = omega arith; at = rests m1 _ pid _ so.machine }
 
 -- one line more
 pub one_more : (m m1 m2 : Machine) (pid : Pid) (guest : List ℕ) (lines : List Line) (rows rows' : List ℕ) (i : ℕ) (line : Line) (answer : Answer) → i < length lines → line ≡ get_or lines i line → length m.journal ≡ 1
@@ -77,7 +76,7 @@ one_more m m1 m2 pid guest lines rows rows' i line answer lt is begun so call wr
     let done = take i lines in
     let more : take (i + 1) lines ≡ done ++ line ∷ [] = take_more lines i line lt ∙ ap (λ (x : Line). done ++ x ∷ []) (sym is) in
     let len : length done ≡ i = omega (arith, length-take i lines) in
-    let called = call pid (length done + 1) (ap (λ (x : Machine). x.connections) so.machine) in
+    let called = call pid (length done + 1) (rests m1 _ pid _ so.machine) in
     let entries = call_entries pid 2 done so.outcomes in
     let size = entries_len pid 2 done so.outcomes so.each in
     let journal : m1.journal ≡ m.journal ++ entries = ap (λ (x : Machine). x.journal) so.machine in
@@ -110,14 +109,14 @@ all_called m m1 pid guest lines lines' rows i le same so = let whole : take i li
 
 -- a machine at rest after its attach
 pub attached_at : (pid : Pid) (m : Machine) → IsAttached pid m → IsAt m pid 1
-attached_at pid m a = ap (λ (x : Machine). x.connections) a.machine
+attached_at pid m a = rests m _ pid 1 a.machine
 
 pub attached_len : (pid : Pid) (m : Machine) → IsAttached pid m → length m.journal ≡ 1
 attached_len pid m a = ap (λ (x : Machine). length x.journal) a.machine
 
 -- the calls leave the machine at rest
 pub called_at : (m m1 : Machine) (pid : Pid) (guest : List ℕ) (lines : List Line) (rows : List ℕ) → AreCalled m pid guest lines rows m1 → IsAt m1 pid (length lines + 1)
-called_at m m1 pid guest lines rows so = ap (λ (x : Machine). x.connections) so.machine
+called_at m m1 pid guest lines rows so = rests m1 _ pid _ so.machine
 
 pub rested : (m m1 : Machine) (pid : Pid) (guest : List ℕ) (lines : List Line) (rows : List ℕ) → AreCalled m pid guest lines rows m1 → (number : ℕ) × IsReady m1 number
 rested m m1 pid guest lines rows so = (length lines + 2, record { pid = pid; last = length lines + 1; below = omega arith; at = called_at m m1 pid guest lines rows so })

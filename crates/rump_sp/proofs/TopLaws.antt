@@ -1,5 +1,5 @@
 -- What the program reads, shows and writes.
-use Rattle.std.proofs.Common.{◌≡◌, ◌⊎◌, inl, inr, ℕ, ◌<◌, ◌≤◌, ◌^◌, true, List, [], ◌∷◌, ◌++◌, Option, Some, None, Ok, Err, length, take, refl, sym, ap, arith}
+use Rattle.std.proofs.Common.{◌≡◌, ◌⊎◌, inl, inr, ℕ, ◌^◌, true, List, [], ◌∷◌, Option, Some, None, Ok, Err, length, take, refl, sym, ap, arith}
 use Rattle.std.proofs.lemmas.Bool.Decides.{nat_tests}
 use Rattle.std.proofs.lemmas.List.{append-nil}
 use Rattle.std.specs.Io.KnownBytes.{Keeps, Appends}
@@ -14,7 +14,7 @@ use Rattle.guest_script.specs.declared.script.Section.{Section}
 use Rattle.rump_sp.specs.Run.{ShowsRun}
 use Rattle.rump_sp.specs.declared.failure.Failure.{Failure}
 use Rattle.rump_sp.specs.declared.failure.Failure.TheVariants.{Usage, TooLong, Line, Input, Output, NoMemory}
-use Rattle.rump_sp.specs.Top.{statuses, status_of, failure_by, failure_of, ShowsSections, Shows, Prints, IsFront, PrintsFront, HasFault, IsFaulty, IsScriptFailure}
+use Rattle.rump_sp.specs.Top.{statuses, status_of, failure_by, failure_of, Shows, Prints, PrintsFront, HasFault, IsFaulty, IsScriptFailure}
 
 -- ---- a script and what it shows
 

@@ -1,5 +1,5 @@
 -- How far the server is with its one guest: an aid of the runner's contracts.
-use Rattle.std.specs.Prelude.{◌≡◌, ℕ, ◌+◌, ◌<◌, List, [], ◌∷◌, ◌++◌, length, Option, None, take}
+use Rattle.std.specs.Prelude.{◌≡◌, ℕ, ◌+◌, ◌<◌, List, [], ◌∷◌, ◌++◌, length, None}
 use Rattle.sp_base.specs.declared.call.Call.{Call}
 use Rattle.sp_base.specs.declared.names.Answer.{Answer}
 use Rattle.sp_base.specs.declared.names.Pid.{Pid}
@@ -15,7 +15,7 @@ use Rattle.sp_hub.specs.declared.connection.Connection.{Connection}
 use Rattle.sp_hub.specs.Kernel.{answer_at}
 use Rattle.sp_hub.specs.declared.event.Event.TheVariants.{Take}
 use Rattle.sp_hub.specs.declared.event.Reply.TheVariants as reply
-use Rattle.sp_hub.specs.Machine.{Machine, played}
+use Rattle.sp_hub.specs.Machine.{Machine, running, played}
 use Rattle.guest_script.specs.declared.script.Line.{Line}
 use Rattle.rump_sp.specs.Run.{guest_connection, request_key, guest_entry, process_of, attach_entry, call_entries, exit_entry, rows_from}
 
@@ -35,11 +35,11 @@ resting pid last = record { no = guest_connection; condition = Live pid; last = 
 
 -- the server between two requests of its one guest
 abbrev pub at_rest : List Entry → Pid → ℕ → Machine
-at_rest journal pid last = record { journal = journal; connections = resting pid last ∷ [] }
+at_rest journal pid last = running journal (resting pid last ∷ [])
 
 -- the guest has this process, its last request has this number, and nothing is under way
 abbrev pub IsAt : Machine → Pid → ℕ → Type 0
-IsAt m pid last = m.connections ≡ resting pid last ∷ []
+IsAt m pid last = m ≡ at_rest m.journal pid last
 
 -- nothing is under way, and the guest's last request has a number below n
 pub record IsReady (m : Machine) (n : ℕ) : Type 0 where

@@ -15,7 +15,9 @@ use Rattle.sp_frames.specs.Faults.{HeaderFits, HasKind, HasWord, HasSize, HasPay
 use Rattle.sp_frames.specs.Reading.{header_at, has_size, body_at, row_at, has_kind, row_or, sized, row_of, framed, step_by, step_of}
 use Rattle.sp_frames.proofs.FieldLaws.{IsBytes-drop, IsBytes-take}
 use Rattle.sp_frames.proofs.HeaderLaws.{header_len, header_again, header_back, header_below}
-use Rattle.sp_frames.proofs.RowLaws.{row_is, class_in-most, row_for, body_read, payload-made, size-made, word-made, kind-made, kind-read}
+use Rattle.sp_frames.proofs.TableLaws.{row_is, class_in-most, row_at-above}
+use Rattle.sp_frames.proofs.ReadLaws.{row_for, body_read}
+use Rattle.sp_frames.proofs.RowLaws.{payload-made, size-made, word-made, kind-made, kind-read}
 use Rattle.sp_frames.proofs.StepLaws.{behind_header, row_ok, named_is, checked, payload_len}
 
 true_or_false : (b : Bool) → (b ≡ true) ⊎ (b ≡ false)
@@ -43,7 +45,7 @@ no_row : (c k w : ℕ) → w < 2 ^ 32 → ¬ HasWord c k w → row_at c k w ≡ 
 no_row c k w lt not = not_some (row_at c k w) (λ r e. not (word-made c k w r lt e))
 
 kind_true : (c k : ℕ) → HasKind c k → has_kind c k ≡ true
-kind_true c k has = subst (λ k. has_kind c k ≡ true) has.1.same_kind (subst (λ c. has_kind c (parts_of has.0).kind ≡ true) has.1.same_class (kind-read has.0))
+kind_true c k has = subst (λ k. has_kind c k ≡ true) has.1.same_kind (subst (λ c. has_kind c (parts_of has.0).kind ≡ true) has.1.same_class (kind-read has.0 has.1.fits))
 
 kind_false : (c k : ℕ) → ¬ HasKind c k → has_kind c k ≡ false
 kind_false c k not = not_true (has_kind c k) (λ e. not (kind-made c k e))
@@ -70,7 +72,7 @@ unfolding step_of
 step_err bytes h fault head long e = rw (le-ltb (length bytes) 24 long, head, e) refl
 
 -- a whole frame whose content is outside its row
-step_outside : (bytes : List ℕ) (h : Header) (r : Row) → header_at bytes ≡ h → 24 ≤ length bytes → h.len ≤ length bytes → row_of h ≡ Ok r → body_at r h.word (take (h.len - 24) (drop 24 bytes)) ≡ None
+step_outside : (bytes : List ℕ) (h : Header) (r : Row) → header_at bytes ≡ h → 24 ≤ length bytes → h.len ≤ length bytes → row_of h ≡ Ok r → body_at r h.kind h.word (take (h.len - 24) (drop 24 bytes)) ≡ None
     → step_of bytes ≡ Fault (Payload h.kind h.len)
 unfolding step_of
 step_outside bytes h r head long whole row none = rw (le-ltb (length bytes) 24 long, head, row, le-ltb (length bytes) h.len whole, none) refl
@@ -90,7 +92,7 @@ long h lt = let least : 24 ≤ h.len = omega arith in rw (le-ltb h.len 24 least,
 no_class : (h : Header) → 24 ≤ h.len → h.len ≤ 131072 → 2 < h.class → row_of h ≡ Err (Class h.class)
 unfolding row_of
 no_class h lo hi lt =
-    let none : row_at h.class h.kind h.word ≡ None = not_some (row_at h.class h.kind h.word) (λ r e. omega (arith, (row_is h.class h.kind h.word r e).class, class_in-most r, lt)) in
+    let none = row_at-above h.class h.kind h.word lt in
     rw (le-ltb h.len 24 lo, le-ltb 131072 h.len hi, none, lt-ltb 2 h.class lt) refl
 
 no_kind : (h : Header) → 24 ≤ h.len → h.len ≤ 131072 → h.word < 2 ^ 32 → h.class ≤ 2 → ¬ HasKind h.class h.kind → row_of h ≡ Err (Kind h.kind)
@@ -131,8 +133,8 @@ outside h more fits rest lo hi has out =
                 let same : p ≡ take (h.len - 24) more = ap (take (h.len - 24)) behind in
                 let len : length p ≡ h.len - 24 = payload_len h bytes lo most in
                 let p_bytes : IsBytes p = subst IsBytes (sym same) (IsBytes-take (h.len - 24) more rest) in
-                let none : body_at row h.word p ≡ None =
-                not_some (body_at row h.word p) (λ b read. content.1 (subst (HasPayload h.class h.kind h.word) same (payload-made h.class h.kind h.word row p b p_bytes fits.word found (rw len e) read))) in
+                let none : body_at row h.kind h.word p ≡ None =
+                not_some (body_at row h.kind h.word p) (λ b read. content.1 (subst (HasPayload h.class h.kind h.word) same (payload-made h.class h.kind h.word row p b p_bytes fits.word found (rw len e) read))) in
                 step_outside bytes h row head (omega (arith, size)) most (row_ok h row lo hi found e) none
           ]
     ]
@@ -226,12 +228,12 @@ framed_none h (Some b) fault e = absurd cc
 framed_none h None fault e = (refl, cc)
 
 -- no body has a payload from which none is read
-no_payload : (h : Header) (r : Row) (p : List ℕ) → row_at h.class h.kind h.word ≡ Some r → body_at r h.word p ≡ None → ¬ HasPayload h.class h.kind h.word p
+no_payload : (h : Header) (r : Row) (p : List ℕ) → row_at h.class h.kind h.word ≡ Some r → body_at r h.kind h.word p ≡ None → ¬ HasPayload h.class h.kind h.word p
 no_payload h r p found none has =
     let read = body_read has.0 has.1.fits in
     let one : Some (row_for has.0) ≡ Some r = sym (named h.class h.kind h.word (has.0, has.1, has.2)) ∙ found in
     let same : row_for has.0 ≡ r = cc in
-    let there : body_at r h.word p ≡ Some has.0 = rw (← same, ← has.2, ← has.3) read.body in
+    let there : body_at r h.kind h.word p ≡ Some has.0 = rw (← same, ← has.1.same_kind, ← has.2, ← has.3) read.body in
     let both : Some has.0 ≡ None = sym there ∙ none in
     absurd cc
 
@@ -241,7 +243,7 @@ by_row h bytes fault fits all (Ok r) row e =
     let is = checked h r row in
     let whole = partial_not (ltb (length bytes) h.len) _ fault e in
     let most : h.len ≤ length bytes = ltb-false (length bytes) h.len whole.0 in
-    let out = framed_none h (body_at r h.word (take (h.len - 24) (drop 24 bytes))) fault whole.1 in
+    let out = framed_none h (body_at r h.kind h.word (take (h.len - 24) (drop 24 bytes))) fault whole.1 in
     let none = no_payload h r (take (h.len - 24) (drop 24 bytes)) is.row out.0 in
     let enough : h.len - 24 ≤ length (drop 24 bytes) = omega (arith, length-drop 24 bytes) in
     subst (IsFaultOf h (drop 24 bytes)) out.1 (refl, refl, (is.least, is.most), word-made h.class h.kind h.word r fits.word is.row, inr (enough, none))

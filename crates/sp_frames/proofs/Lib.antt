@@ -2,6 +2,9 @@ pub mod FieldLaws
 pub mod WordLaws
 pub mod WordsLoop
 pub mod HeaderLaws
+pub mod TableLaws
+pub mod FoundLaws
+pub mod ReadLaws
 pub mod RowLaws
 pub mod StepLaws
 pub mod FaultLaws

@@ -17,7 +17,9 @@ use Rattle.sp_frames.specs.Feeding.{IsFront}
 use Rattle.sp_frames.specs.Reading.{header_at, has_size, body_at, row_at, has_kind, row_or, sized, row_of, framed, step_by, step_of}
 use Rattle.sp_frames.proofs.FieldLaws.{IsBytes-drop, IsBytes-take}
 use Rattle.sp_frames.proofs.HeaderLaws.{header_len, header_again, header_back, header_below}
-use Rattle.sp_frames.proofs.RowLaws.{row_is, class_in-most, kind_in-most, IsOf, body_found, row_for, body_read}
+use Rattle.sp_frames.proofs.TableLaws.{row_is, class_in-most, type-most}
+use Rattle.sp_frames.proofs.FoundLaws.{IsOf, body_found}
+use Rattle.sp_frames.proofs.ReadLaws.{row_for, body_read}
 
 -- the bytes behind a header
 pub behind_header : (h : Header) (more : List ℕ) → drop 24 (header_bytes h ++ more) ≡ more
@@ -38,7 +40,7 @@ header_fits f fits =
       len = omega (arith, is.few);
       number = fits.number;
       class = omega (arith, row.class, class_in-most (row_for b));
-      kind = omega (arith, row.kind, kind_in-most (row_for b));
+      kind = omega (arith, type-most (row_for b) (parts_of b).kind row.kind);
       word = fits.body.word;
     }
 
@@ -146,7 +148,7 @@ found bytes f n fits e =
     let whole = not_partial (ltb (length bytes) h.len) _ f n by.2 in
     let most : h.len ≤ length bytes = ltb-false (length bytes) h.len whole.0 in
     let p = take (h.len - 24) (drop 24 bytes) in
-    let b = framed_is h (body_at r h.word p) f n whole.1 in
+    let b = framed_is h (body_at r h.kind h.word p) f n whole.1 in
     let len = payload_len h bytes ok.least most in
     let below = header_below bytes fits in
     let is = body_found r h.class h.kind h.word p b.0 (IsBytes-take (h.len - 24) (drop 24 bytes) (IsBytes-drop 24 bytes fits)) below.word (row_is h.class h.kind h.word r ok.row) (rw len ok.size) b.1 in

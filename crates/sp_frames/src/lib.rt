@@ -4,6 +4,7 @@
 #![tactic(auto)]
 
 mod banner;
+mod bodies;
 mod fault;
 mod fields;
 mod frame;

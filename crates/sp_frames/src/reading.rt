@@ -1,14 +1,14 @@
 //! A frame at the front of bytes.
-ghost use Rattle.std.specs.Prelude.{◌≡◌, ◌*◌, ◌≤◌, true, length, IfOk};
+ghost use Rattle.std.specs.Prelude.{◌≡◌, IfOk};
 ghost use Rattle.sp_frames.specs.Feeding.{FrontIs};
-ghost use Rattle.sp_frames.specs.Reading.{has_size, words_at, name_of, body_at, step_of};
+ghost use Rattle.sp_frames.specs.Reading.{step_of};
 
+use crate::bodies::body;
 use crate::fault::FrameFault;
-use crate::fields::{u32_at, u64_at};
-use crate::frame::{Body, Frame};
+use crate::frame::Frame;
 use crate::header::read_header;
-use crate::rows::{Row, checked_row};
-use sp_base::{Answer, NoMemory, Octets, Pid, Place, ReqNo, Words};
+use crate::rows::checked_row;
+use sp_base::{NoMemory, ReqNo};
 use std::alloc::Global;
 
 /// What stands at the front of bytes.
@@ -20,50 +20,6 @@ pub enum Step {
     Partial,
     /// A fault.
     Fault(FrameFault),
-}
-
-fn words(count: usize, payload: &[u8]) -> Words
-    requires few { count ≤ 8 }
-    requires room { 8 * count ≤ length payload.now }
-    ensures { result ≡ words_at count payload.now }
-{
-    let mut words = Words::none();
-    for i in 0..count {
-        words.push(u64_at(payload, 8 * i));
-    }
-    words
-}
-
-fn name(alloc: Global, bytes: &[u8]) -> Result<Option<Octets>, NoMemory>
-    ensures { IfOk result (λ found. found ≡ name_of bytes.now) }
-{
-    if bytes.contains(&0) {
-        return Ok(None);
-    }
-    let name = Octets::of(alloc, bytes)?;
-    Ok(Some(name))
-}
-
-fn body(alloc: Global, row: Row, word: u32, payload: &[u8]) -> Result<Option<Body>, NoMemory>
-    requires { has_size row (length payload.now) ≡ true }
-    ensures { IfOk result (λ found. found ≡ body_at row word payload.now) }
-{
-    match row {
-        Row::Guest => Ok(name(alloc, payload)?.map(|name| Body::Guest { name })),
-        Row::Sys => {
-            let words = words(payload.len() / 8, payload);
-            Ok(Some(Body::Sys { num: word, words }))
-        }
-        Row::Hello => Ok(Some(Body::Hello {
-            pid: Pid(u32_at(payload, 0)),
-        })),
-        Row::Answered => Ok(Some(Body::Answered(Answer {
-            err: word,
-            ret0: u64_at(payload, 0),
-            ret1: u64_at(payload, 8),
-            place: Place(u64_at(payload, 16)),
-        }))),
-    }
 }
 
 #[tactic(auto, unfolding(crate::specs::Reading::step_of))]
@@ -82,7 +38,7 @@ fn find_step(alloc: Global, bytes: &[u8]) -> Result<Step, NoMemory>
         return Ok(Step::Partial);
     }
     let len = h.len as usize;
-    match body(alloc, row, h.word, &bytes[24..len])? {
+    match body(alloc, row, &h, &bytes[24..len])? {
         None => Ok(Step::Fault(FrameFault::Payload {
             kind: h.kind,
             len: h.len,

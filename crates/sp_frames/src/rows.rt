@@ -9,20 +9,81 @@ use crate::header::Header;
 #[derive(Clone, Copy, Debug)]
 pub enum Row {
     Guest,
+    Join,
+    Image,
     Sys,
+    AskBytes,
+    AskText,
+    Put,
+    Prefork,
+    Cancel,
+    Preexec,
     Hello,
+    Joined,
+    Imaged,
     Answered,
+    GotBytes,
+    GotText,
+    Forked,
+    Cancelled,
+    ExecReady,
+    Refused,
 }
 
 #[tactic(auto, unfolding(crate::specs::Reading::row_at))]
+fn request_row(kind: u16, word: u32) -> Option<Row>
+    ensures { result ≡ row_at 0 kind word }
+{
+    match (kind, word) {
+        (0, 0) => Some(Row::Guest),
+        (0, 1) => Some(Row::Join),
+        (0, 2) => Some(Row::Image),
+        (1, _) => Some(Row::Sys),
+        (2, 0..=7) => Some(Row::AskBytes),
+        (3, 0..=7) => Some(Row::AskText),
+        (4, 0..=7) => Some(Row::Put),
+        (5, 0) => Some(Row::Prefork),
+        (5, 1) => Some(Row::Cancel),
+        (6, 0) => Some(Row::Preexec),
+        _ => None,
+    }
+}
+
+#[tactic(auto, unfolding(crate::specs::Reading::row_at))]
+fn response_row(kind: u16, word: u32) -> Option<Row>
+    ensures { result ≡ row_at 1 kind word }
+{
+    match (kind, word) {
+        (0, 0) => Some(Row::Hello),
+        (0, 1) => Some(Row::Joined),
+        (0, 2) => Some(Row::Imaged),
+        (1, _) => Some(Row::Answered),
+        (2, 0..=7) => Some(Row::GotBytes),
+        (3, 0..=7) => Some(Row::GotText),
+        (5, 0) => Some(Row::Forked),
+        (5, 1) => Some(Row::Cancelled),
+        (6, 0) => Some(Row::ExecReady),
+        _ => None,
+    }
+}
+
+#[tactic(auto, unfolding(crate::specs::Reading::row_at))]
+fn error_row(kind: u16, word: u32) -> Option<Row>
+    ensures { result ≡ row_at 2 kind word }
+{
+    match (kind, word) {
+        (0 | 1 | 5 | 6, 1..=7) => Some(Row::Refused),
+        _ => None,
+    }
+}
+
 fn find_row(class: u16, kind: u16, word: u32) -> Option<Row>
     ensures { result ≡ row_at class kind word }
 {
-    match (class, kind, word) {
-        (0, 0, 0) => Some(Row::Guest),
-        (0, 1, _) => Some(Row::Sys),
-        (1, 0, 0) => Some(Row::Hello),
-        (1, 1, _) => Some(Row::Answered),
+    match class {
+        0 => request_row(kind, word),
+        1 => response_row(kind, word),
+        2 => error_row(kind, word),
         _ => None,
     }
 }
@@ -31,7 +92,12 @@ fn find_row(class: u16, kind: u16, word: u32) -> Option<Row>
 fn is_kind(class: u16, kind: u16) -> bool
     ensures { result ≡ has_kind class kind }
 {
-    matches!((class, kind), (0 | 1, 0 | 1))
+    match class {
+        0 => kind <= 6,
+        1 => kind <= 3 || kind == 5 || kind == 6,
+        2 => kind <= 1 || kind == 5 || kind == 6,
+        _ => false,
+    }
 }
 
 fn named_row(class: u16, kind: u16, word: u32) -> Result<Row, FrameFault>
@@ -49,10 +115,18 @@ fn may_have(row: Row, len: u64) -> bool
     ensures { result ≡ has_size row len }
 {
     match row {
-        Row::Guest => 0 < len && len <= 255,
+        Row::Guest => 1 <= len && len <= 255,
+        Row::Join | Row::Image => 17 <= len && len <= 271,
         Row::Sys => len <= 64 && len % 8 == 0,
-        Row::Hello => len == 4,
+        Row::Put => 9 <= len && len <= 131_048,
+        Row::GotBytes => 4 <= len && len <= 131_048,
+        Row::GotText => 4 <= len && len <= 1_027,
+        Row::Prefork | Row::Preexec | Row::Cancelled | Row::Refused => len == 0,
+        Row::Hello | Row::Joined => len == 4,
+        Row::Imaged => len == 12,
+        Row::AskBytes | Row::AskText | Row::Cancel | Row::ExecReady => len == 16,
         Row::Answered => len == 24,
+        Row::Forked => len == 32,
     }
 }
 

@@ -83,7 +83,7 @@ reached_remove Fresh calls place h = remove_none calls place h
 reached_remove (Live p) calls place h = tt
 reached_remove (InExec p) calls place h = absurd h
 reached_remove Left calls place h = absurd h
-reached_remove Draining calls place h = absurd h
+reached_remove Draining calls place h = remove_none calls place h
 reached_remove Closed calls place h = remove_none calls place h
 
 pub reached_fresh : (s : Condition) (calls : List OpenCall) → s ≡ Fresh → IsReached s calls → calls ≡ []
@@ -91,5 +91,5 @@ reached_fresh Fresh calls e h = h
 reached_fresh (Live p) calls e h = absurd cc
 reached_fresh (InExec p) calls e h = absurd h
 reached_fresh Left calls e h = absurd h
-reached_fresh Draining calls e h = absurd h
+reached_fresh Draining calls e h = absurd cc
 reached_fresh Closed calls e h = absurd cc

@@ -20,6 +20,7 @@ use Rattle.kern_model.specs.Outcome.{success}
 use Rattle.kern_model.specs.State.{State, Process, opening, fresh_process, rows_of, replace_rows, with_process, with_row}
 use Rattle.kern_model.specs.Act.{Step, act, act_op, act_call, is_built, act_attach, act_exit, answered, or_fail}
 use Rattle.kern_model.specs.Journal.{after_entry, state_after, state_from, state_of_step, entry_of_step, next_entry}
+use Rattle.sp_hub.specs.Verdict.{is_taken}
 use Rattle.sp_hub.proofs.Journals.{entry, state_after-push, after_entry-entry}
 
 -- ---- tables
@@ -193,9 +194,16 @@ or_fail_acts (Some x) error s act_with acts = acts x
 pub attach_acts : (s : State) → act_attach s ≢ None
 attach_acts s = or_fail_acts (lowest_unused s.processes 2) Eagain s (λ pid. answered pid (with_process s pid (Some fresh_process))) (λ pid e. cc)
 
--- a call that is built by now never waits
-pub call_acts : (s : State) (pid : ℕ) (call : Call) → IsTrue (is_built call) → act_call s pid call ≢ None
+-- a call that the server takes never waits
+pub call_acts : (s : State) (pid : ℕ) (call : Call) → IsTrue (is_taken call) → act_call s pid call ≢ None
 call_acts s pid Getpid built = λ e. cc
 call_acts s pid (Close fd) built = or_fail_acts (at (rows_of s pid) fd) Ebadf s (λ row. answered 0 (with_row s pid fd None)) (λ row e. cc)
 call_acts s pid (Unknown num words) built = λ e. cc
 call_acts s pid _ built = λ e. (let no_call : false ≡ true = built in cc)
+
+-- the kernel knows each call that the server takes
+pub taken_built : (call : Call) → IsTrue (is_taken call) → IsTrue (is_built call)
+taken_built Getpid taken = refl
+taken_built (Close fd) taken = refl
+taken_built (Unknown num words) taken = refl
+taken_built _ taken = (let no_call : false ≡ true = taken in cc)

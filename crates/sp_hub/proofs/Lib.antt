@@ -8,4 +8,5 @@ pub mod Sound
 pub mod Verdicts
 pub mod Steps
 pub mod Machines
+pub mod LowestCall
 pub mod Replies

@@ -57,7 +57,7 @@ pub found : (m : Machine) (c : ConnNo) (otherwise : Reply) (step : List Entry �
 found m c otherwise step place x at here = ap (step_at m otherwise step) at ∙ ap (step_of_found m otherwise step place) here
 
 abbrev pub written : Machine → ℕ → List Entry → Connection → Machine
-written m place journal' x' = record { journal = journal'; connections = slice_set m.connections place x' }
+written m place journal' x' = record m { journal = journal'; connections = slice_set m.connections place x' }
 
 pub steps : (m : Machine) (c : ConnNo) (otherwise : Reply) (step : List Entry → Connection → Step) (place : ℕ) (x : Connection) (answer : Reply) (journal' : List Entry) (x' : Connection)
     → place_of m.connections c ≡ Some place → slice_get m.connections place ≡ Some x

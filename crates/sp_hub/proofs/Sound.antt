@@ -77,7 +77,7 @@ new_key m i x who sound at about not = all_map (λ e. IsSpent m.connections e.wh
 clash : (journal : List Entry) (p : Pid) → IsProcess journal p → at (state_after journal).processes p.0 ≡ None → ⊥
 clash journal p live none = let h : IsSome (at (state_after journal).processes p.0) = live in let g : false ≡ true = rw none at h in cc
 
-pub sound_step : (m : Machine) (i : ℕ) (x x' : Connection) (journal' : List Entry) → IsSound m → slice_get m.connections i ≡ Some x → Keeps m.journal x journal' x' → IsSound (record { journal = journal'; connections = slice_set m.connections i x' })
+pub sound_step : (m : Machine) (i : ℕ) (x x' : Connection) (journal' : List Entry) → IsSound m → slice_get m.connections i ≡ Some x → Keeps m.journal x journal' x' → IsSound (record m { journal = journal'; connections = slice_set m.connections i x' })
 sound_step m i x x' journal' sound here keeps =
     let connections = slice_set m.connections i x' in
     let still : AllByRecursion (λ e. IsSpent connections e.who) m.journal = all_map (λ e. IsSpent m.connections e.who) (λ e. IsSpent connections e.who) (λ e s. spent_on m.connections i x x' here keeps.spends e.who s) m.journal sound.spent in
@@ -155,7 +155,7 @@ not_live : (c : ConnNo) (x : Connection) (p : Pid) → fresh_connection c ≡ x 
 not_live c x p e h = let f : Fresh ≡ Live p = ap (λ (d : Connection). d.condition) e ∙ h in cc
 
 fresh_is : (c : ConnNo) → IsConnection (fresh_connection c)
-fresh_is c = record { reached = refl; built = tt; bounded = tt; own = tt; fit = tt }
+fresh_is c = record { reached = refl; taken = tt; bounded = tt; own = tt; fit = tt }
 
 pub pushed_sound : (m : Machine) (c : ConnNo) → IsSound m → list_all (λ x. nat_lt x.no.0 c.0) m.connections ≡ true → IsSound (record m { connections = m.connections ++ fresh_connection c ∷ [] })
 pushed_sound m c sound above =

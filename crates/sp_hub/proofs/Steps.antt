@@ -1,10 +1,12 @@
 -- Each step of a connection keeps what the machine needs.
-use Rattle.std.proofs.Common.{◌≡◌, ◌≢◌, inl, inr, ℕ, ◌<◌, ◌≤◌, List, [], ◌∷◌, ◌++◌, Option, Some, None, IsSome, refl, sym, ap, subst, ◌∙◌, arith}
+use Rattle.std.proofs.Common.{◌≡◌, inl, inr, ℕ, true, ◌<◌, ◌≤◌, List, [], ◌∷◌, ◌++◌, Option, Some, None, IsSome, refl, sym, ap, subst, ◌∙◌, arith}
 use Rattle.std.specs.Prelude.{slice_get, remove, IsTrue}
 use Rattle.std.specs.List.{AllByRecursion}
 use Rattle.sp_base.specs.declared.call.Call.{Call}
 use Rattle.sp_base.specs.declared.names.Pid.{Pid}
 use Rattle.sp_base.specs.declared.names.ReqNo.{ReqNo}
+use Rattle.sp_base.specs.declared.names.SpError.{SpError}
+use Rattle.sp_base.specs.declared.names.SpError.TheVariants.{Malformed}
 use Rattle.sp_frames.specs.declared.frame.Frame.{Frame}
 use Rattle.sp_frames.specs.Grammar.{Fits}
 use Rattle.kern_model.specs.declared.journal.Entry.{Entry}
@@ -15,24 +17,27 @@ use Rattle.kern_model.specs.declared.operation.Op.{Op}
 use Rattle.kern_model.specs.declared.operation.Op.TheVariants as op
 use Rattle.kern_model.specs.Table.{at}
 use Rattle.kern_model.specs.State.{State, fresh_process, with_process}
-use Rattle.kern_model.specs.Act.{is_built}
 use Rattle.kern_model.specs.Journal.{FitsPid, FitsIns, Follows, state_after, next_entry}
 use Rattle.sp_hub.specs.declared.connection.Condition.{Condition}
-use Rattle.sp_hub.specs.declared.connection.Condition.TheVariants.{Fresh, Live, InExec, Closed}
+use Rattle.sp_hub.specs.declared.connection.Condition.TheVariants.{Fresh, Live, InExec, Left, Draining, Closed}
 use Rattle.sp_hub.specs.declared.connection.Connection.{Connection}
 use Rattle.sp_hub.specs.declared.connection.OpenCall.{OpenCall}
+use Rattle.sp_hub.specs.declared.event.Finish.{Finish}
+use Rattle.sp_hub.specs.declared.event.Finish.TheVariants.{Clean, Inside, Bad}
+use Rattle.sp_hub.specs.declared.event.Reply.{Reply}
+use Rattle.sp_hub.specs.declared.event.Reply.TheVariants as reply
 use Rattle.sp_hub.specs.declared.verdict.Verdict.{Verdict}
 use Rattle.sp_hub.specs.declared.verdict.Verdict.TheVariants as verdict
-use Rattle.sp_hub.specs.Connection.{over, process_in, place_of_call}
-use Rattle.sp_hub.specs.Step.{nothing_read, no_process, hello, attach_step, open_step, frame_step_by, frame_step, perform_step, work_call, work_at, work_step, take_from, take_step, exit_of, with_entry, end_by, end_step}
-use Rattle.sp_hub.specs.Verdict.{verdict_of}
+use Rattle.sp_hub.specs.Connection.{process_in, takes_nothing, place_of_call}
+use Rattle.sp_hub.specs.Step.{nothing_read, no_process, hello, attach_step, open_step, frame_step_by, frame_step, perform_step, work_call, work_at, work_step, take_from, take_step, exit_of, with_entry, answered_kind, drain_step, refuse_step, close_step, end_by, end_step}
+use Rattle.sp_hub.specs.Verdict.{is_taken, verdict_of}
 use Rattle.sp_hub.specs.Sound.{IsReached, IsConnection, NotOpen, Spends}
 use Rattle.sp_hub.proofs.Calls.{not_open_none, not_open_push, not_open_remove, own_none, own_push, own_remove, open_at, gone_at, reached_remove, reached_fresh}
 use Rattle.sp_hub.proofs.Lists.{all_at, all_remove, all_push, all_map, all_none}
 use Rattle.sp_hub.proofs.Journals.{follows_by}
 use Rattle.sp_hub.proofs.KernelLaws.{Nexts, nexts, attach_does, call_live, exit_live, lowest_unused_is, live_put, put_live}
 use Rattle.sp_hub.proofs.Sound.{IsProcess, IsAbout, Adds, Keeps}
-use Rattle.sp_hub.proofs.Verdicts.{Attaches, attaches, Opens, opens}
+use Rattle.sp_hub.proofs.Verdicts.{Attaches, attaches, Opens, opens, refuses}
 
 -- the process of a live connection is live
 abbrev pub IsOwner : List Entry → Connection → Type 0
@@ -92,7 +97,7 @@ attach_keeps journal x f e is a next fit =
     let after : state_after (journal ++ e ∷ []) ≡ with_process s a.pid (Some fresh_process) = n.state ∙ does.1 in
     record {
       no = refl;
-      connection = record { reached = tt; built = all_none (λ t. IsTrue (is_built t.call)) x.calls none; bounded = all_none (λ t. t.number.0 ≤ f.number.0) x.calls none; own = own_none x.calls none; fit = fit };
+      connection = record { reached = tt; taken = all_none (λ t. IsTrue (is_taken t.call)) x.calls none; bounded = all_none (λ t. t.number.0 ≤ f.number.0) x.calls none; own = own_none x.calls none; fit = fit };
       spends = λ who h. fresh_spends x x' who a.fresh refl (omega arith) (λ n. not_open_none x.calls n none) h;
       grows = inr (adds journal x x' no_process (Request x.no f.number) op.Attach nothing_read e refl refl n (refl, omega arith, not_open_none x.calls f.number.0 none) (λ (s : Spends x (Request x.no f.number)). let le = s.1 in omega arith) refl);
       others = λ q h not. rw after (live_put s.processes a.pid fresh_process q.0 h);
@@ -127,7 +132,7 @@ open_keeps journal x f call is owner o =
       no = refl;
       connection = record {
         reached = process_reached x.condition x.calls (x.calls ++ t ∷ []) o.pid o.process is.reached;
-        built = all_push (λ t. IsTrue (is_built t.call)) x.calls t is.built o.built;
+        taken = all_push (λ t. IsTrue (is_taken t.call)) x.calls t is.taken o.taken;
         bounded = all_push (λ t. t.number.0 ≤ f.number.0) x.calls t (all_map (λ t. t.number.0 ≤ x.last.0) (λ t. t.number.0 ≤ f.number.0) (λ (t : OpenCall) (le : t.number.0 ≤ x.last.0). omega arith) x.calls is.bounded) (omega arith);
         own = own_push x.calls t x.last.0 is.own is.bounded later;
         fit = is.fit;
@@ -139,13 +144,114 @@ open_keeps journal x f call is owner o =
       fresh = λ p h. inl h;
     }
 
+process_live : (s : Condition) (calls : List OpenCall) (pid : Pid) → process_in s ≡ Some pid → IsReached s calls → s ≡ Live pid
+process_live (Live p) calls pid e h = let same : p ≡ pid = cc in ap Live same
+process_live (InExec p) calls pid e h = absurd h
+process_live _ calls pid e h = absurd cc
+
+-- ---- a connection drains or is over
+
+-- a connection that takes nothing more: it has no calls, and sends these frames
+abbrev pub gone : Connection → Condition → List Frame → Connection
+gone x condition queue = record x { condition = condition; calls = []; queue = queue }
+
+gone_reached : (s : Condition) → takes_nothing s ≡ true → IsReached s []
+gone_reached Draining h = refl
+gone_reached Closed h = refl
+gone_reached Fresh h = refl
+gone_reached (Live p) h = tt
+gone_reached (InExec p) h = absurd cc
+gone_reached Left h = absurd cc
+
+not_live : (s : Condition) (p : Pid) → takes_nothing s ≡ true → s ≡ Live p → ⊥
+not_live s p h e = let g : takes_nothing (Live p) ≡ true = rw e at h in cc
+
+gone_spends : (x : Connection) (s : Condition) (queue : List Frame) (who : Who) → takes_nothing s ≡ true → Spends x who → Spends (gone x s queue) who
+gone_spends x s queue (Request c r) nothing h = (h.0, h.1, refl)
+gone_spends x s queue (End c) nothing h = (h.0, nothing)
+gone_spends x s queue (Cancelled cookie) nothing h = absurd h
+gone_spends x s queue (Host guest count) nothing h = absurd h
+
+gone_is : (x : Connection) (s : Condition) (queue : List Frame) → takes_nothing s ≡ true → AllByRecursion Fits queue → IsConnection (gone x s queue)
+gone_is x s queue nothing fit = record { reached = gone_reached s nothing; taken = tt; bounded = tt; own = tt; fit = fit }
+
+dropped_keeps : (journal : List Entry) (x : Connection) (s : Condition) (queue : List Frame) → takes_nothing s ≡ true → AllByRecursion Fits queue → Keeps journal x journal (gone x s queue)
+dropped_keeps journal x s queue nothing fit = record {
+  no = refl;
+  connection = gone_is x s queue nothing fit;
+  spends = λ who h. gone_spends x s queue who nothing h;
+  grows = inl refl;
+  others = λ q h not. h;
+  mine = λ p h. absurd (not_live s p nothing h);
+  fresh = λ p h. absurd (not_live s p nothing h);
+}
+
+exit_keeps : (journal : List Entry) (x : Connection) (s : Condition) (queue : List Frame) (pid : Pid) → takes_nothing s ≡ true → AllByRecursion Fits queue → x.condition ≡ Live pid → IsProcess journal pid
+    → (next : Option Entry) → next_entry journal pid (End x.no) op.Exit nothing_read ≡ next → Keeps journal x (with_entry journal next) (gone x s queue)
+exit_keeps journal x s queue pid nothing fit live here None next = dropped_keeps journal x s queue nothing fit
+exit_keeps journal x s queue pid nothing fit live here (Some e) next =
+    let n = nexts journal pid (End x.no) op.Exit nothing_read e next in record {
+      no = refl;
+      connection = gone_is x s queue nothing fit;
+      spends = λ who h. gone_spends x s queue who nothing h;
+      grows = inr (adds journal x (gone x s queue) pid (End x.no) op.Exit nothing_read e here refl n (refl, nothing) (λ (h : Spends x (End x.no)). not_live x.condition pid h.1 live) refl);
+      others = λ q h not. rw n.state (exit_live (state_after journal) pid.0 e.outcome n.next q.0 n.acts (λ (same : q.0 ≡ pid.0). not (live ∙ ap (λ m. Live (record { 0 = m })) (sym same))) h);
+      mine = λ p h. absurd (not_live s p nothing h);
+      fresh = λ p h. absurd (not_live s p nothing h);
+    }
+
+leave_keeps : (journal : List Entry) (x : Connection) (s : Condition) (queue : List Frame) → takes_nothing s ≡ true → AllByRecursion Fits queue → IsConnection x → IsOwner journal x
+    → (process : Option Pid) → process_in x.condition ≡ process → Keeps journal x (exit_of journal x process) (gone x s queue)
+leave_keeps journal x s queue nothing fit is owner None e = dropped_keeps journal x s queue nothing fit
+leave_keeps journal x s queue nothing fit is owner (Some pid) e =
+    let live : x.condition ≡ Live pid = process_live x.condition x.calls pid e is.reached in
+    exit_keeps journal x s queue pid nothing fit live (owner pid live) (next_entry journal pid (End x.no) op.Exit nothing_read) refl
+
+close_keeps : (journal : List Entry) (x : Connection) → IsConnection x → IsOwner journal x → Keeps journal x (close_step journal x).journal (close_step journal x).connection
+close_keeps journal x is owner = leave_keeps journal x Closed [] refl tt is owner (process_in x.condition) refl
+
+drain_keeps : (answer : Reply) (journal : List Entry) (x : Connection) (f : Frame) → IsConnection x → IsOwner journal x → AllByRecursion Fits (x.queue ++ f ∷ [])
+    → Keeps journal x (drain_step answer journal x f).journal (drain_step answer journal x f).connection
+drain_keeps answer journal x f is owner fit = leave_keeps journal x Draining (x.queue ++ f ∷ []) refl fit is owner (process_in x.condition) refl
+
+-- ---- a request is refused
+
+refused_spends : (x : Connection) (r : ReqNo) (queue : List Frame) (who : Who) → x.last.0 < r.0 → Spends x who → Spends (record x { last = r; queue = queue }) who
+refused_spends x r queue (Request c q) lt h = (h.0, (let le = h.1 in omega arith), h.2)
+refused_spends x r queue (End c) lt h = h
+refused_spends x r queue (Cancelled cookie) lt h = absurd h
+refused_spends x r queue (Host guest count) lt h = absurd h
+
+refused_keeps : (journal : List Entry) (x : Connection) (r : ReqNo) (queue : List Frame) → IsConnection x → IsOwner journal x → x.last.0 < r.0 → AllByRecursion Fits queue → Keeps journal x journal (record x { last = r; queue = queue })
+refused_keeps journal x r queue is owner later fit = record {
+  no = refl;
+  connection = record {
+    reached = is.reached;
+    taken = is.taken;
+    bounded = all_map (λ t. t.number.0 ≤ x.last.0) (λ t. t.number.0 ≤ r.0) (λ (t : OpenCall) (le : t.number.0 ≤ x.last.0). omega arith) x.calls is.bounded;
+    own = is.own;
+    fit = fit;
+  };
+  spends = λ who h. refused_spends x r queue who later h;
+  grows = inl refl;
+  others = λ q h not. h;
+  mine = owner;
+  fresh = λ p h. inl h;
+}
+
+refuse_by : (journal : List Entry) (x : Connection) (f : Frame) (kind : Option ℕ) (why : SpError) → IsConnection x → IsOwner journal x → x.last.0 < f.number.0 → AllByRecursion Fits (refuse_step journal x f kind why).connection.queue
+    → Keeps journal x (refuse_step journal x f kind why).journal (refuse_step journal x f kind why).connection
+refuse_by journal x f None why is owner later fit = same_keeps journal x is owner
+refuse_by journal x f (Some kind) why is owner later fit = refused_keeps journal x f.number _ is owner later fit
+
 -- ---- a frame
 
 frame_by : (journal : List Entry) (x : Connection) (f : Frame) → IsConnection x → IsOwner journal x → (v : Verdict) → verdict_of (state_after journal) x f ≡ v
     → AllByRecursion Fits (frame_step_by v journal x f).connection.queue
     → Keeps journal x (frame_step_by v journal x f).journal (frame_step_by v journal x f).connection
 frame_by journal x f is owner verdict.Closed e fit = same_keeps journal x is owner
-frame_by journal x f is owner (verdict.Refused why) e fit = same_keeps journal x is owner
+frame_by journal x f is owner verdict.Malformed e fit = drain_keeps (reply.Refused Malformed) journal x _ is owner fit
+frame_by journal x f is owner (verdict.Refused why) e fit = refuse_by journal x f (answered_kind f.body) why is owner (refuses (state_after journal) x f why e) fit
 frame_by journal x f is owner verdict.Attach e fit = attach_by journal x f is owner (attaches (state_after journal) x f e) (next_entry journal no_process (Request x.no f.number) op.Attach nothing_read) refl fit
 frame_by journal x f is owner (verdict.Open call) e fit = open_keeps journal x f call is owner (opens (state_after journal) x f call e)
 
@@ -153,11 +259,6 @@ pub frame_keeps : (journal : List Entry) (x : Connection) (f : Frame) → IsConn
 frame_keeps journal x f is owner fit = frame_by journal x f is owner (verdict_of (state_after journal) x f) refl fit
 
 -- ---- work
-
-process_live : (s : Condition) (calls : List OpenCall) (pid : Pid) → process_in s ≡ Some pid → IsReached s calls → s ≡ Live pid
-process_live (Live p) calls pid e h = let same : p ≡ pid = cc in ap Live same
-process_live (InExec p) calls pid e h = absurd h
-process_live _ calls pid e h = absurd cc
 
 work_spends : (x : Connection) (place : ℕ) (queue : List Frame) (who : Who) → Spends x who → Spends (record x { calls = remove x.calls place; queue = queue }) who
 work_spends x place queue (Request c r) h = (h.0, h.1, not_open_remove x.calls place r.0 h.2)
@@ -180,7 +281,7 @@ perform_keeps journal x place t pid queue e is owner there process next fit =
       no = refl;
       connection = record {
         reached = reached_remove x.condition x.calls place is.reached;
-        built = all_remove (λ t. IsTrue (is_built t.call)) x.calls place is.built;
+        taken = all_remove (λ t. IsTrue (is_taken t.call)) x.calls place is.taken;
         bounded = all_remove (λ t. t.number.0 ≤ x.last.0) x.calls place is.bounded;
         own = own_remove x.calls place is.own;
         fit = fit;
@@ -230,7 +331,7 @@ shorter_keeps : (journal : List Entry) (x : Connection) (f : Frame) (queue : Lis
 shorter_keeps journal x f queue e is owner =
     let fit : AllByRecursion Fits (f ∷ queue) = subst (λ (q : List Frame). AllByRecursion Fits q) e is.fit in record {
       no = refl;
-      connection = record { reached = is.reached; built = is.built; bounded = is.bounded; own = is.own; fit = fit.1 };
+      connection = record { reached = is.reached; taken = is.taken; bounded = is.bounded; own = is.own; fit = fit.1 };
       spends = λ who h. queue_spends x queue who h;
       grows = inl refl;
       others = λ q h not. h;
@@ -247,52 +348,16 @@ take_by journal x is owner _ (f ∷ queue) e = shorter_keeps journal x f queue e
 pub take_keeps : (journal : List Entry) (x : Connection) → IsConnection x → IsOwner journal x → Keeps journal x (take_step journal x).journal (take_step journal x).connection
 take_keeps journal x is owner = take_by journal x is owner x.condition x.queue refl
 
--- ---- a connection ends
+-- ---- a connection's input ends
 
-over_spends : (x : Connection) (who : Who) → x.condition ≢ Closed → Spends x who → Spends (over x) who
-over_spends x (Request c r) ne h = (h.0, h.1, refl)
-over_spends x (End c) ne h = absurd (ne h.1)
-over_spends x (Cancelled cookie) ne h = absurd h
-over_spends x (Host guest count) ne h = absurd h
+end_keeps_by : (journal : List Entry) (x : Connection) → IsConnection x → IsOwner journal x → (condition : Condition) (finish : Finish) → AllByRecursion Fits (end_by journal x condition finish).connection.queue
+    → Keeps journal x (end_by journal x condition finish).journal (end_by journal x condition finish).connection
+end_keeps_by journal x is owner Closed finish fit = same_keeps journal x is owner
+end_keeps_by journal x is owner (Live pid) (Bad fault) fit = drain_keeps reply.Nothing journal x _ is owner fit
+end_keeps_by journal x is owner (Live pid) Clean fit = close_keeps journal x is owner
+end_keeps_by journal x is owner (Live pid) Inside fit = close_keeps journal x is owner
+end_keeps_by journal x is owner _ finish fit = close_keeps journal x is owner
 
-over_is : (x : Connection) → IsConnection (over x)
-over_is x = record { reached = refl; built = tt; bounded = tt; own = tt; fit = tt }
-
-dropped_keeps : (journal : List Entry) (x : Connection) → x.condition ≢ Closed → Keeps journal x journal (over x)
-dropped_keeps journal x ne = record {
-  no = refl;
-  connection = over_is x;
-  spends = λ who h. over_spends x who ne h;
-  grows = inl refl;
-  others = λ q h not. h;
-  mine = λ p h. absurd cc;
-  fresh = λ p h. absurd cc;
-}
-
-exit_keeps : (journal : List Entry) (x : Connection) (pid : Pid) → x.condition ≡ Live pid → IsProcess journal pid
-    → (next : Option Entry) → next_entry journal pid (End x.no) op.Exit nothing_read ≡ next → Keeps journal x (with_entry journal next) (over x)
-exit_keeps journal x pid live here None next = dropped_keeps journal x (λ e. cc)
-exit_keeps journal x pid live here (Some e) next =
-    let n = nexts journal pid (End x.no) op.Exit nothing_read e next in record {
-      no = refl;
-      connection = over_is x;
-      spends = λ who h. over_spends x who (λ e. cc) h;
-      grows = inr (adds journal x (over x) pid (End x.no) op.Exit nothing_read e here refl n (refl, refl) (λ (s : Spends x (End x.no)). (let closed = s.1 in cc)) refl);
-      others = λ q h not. rw n.state (exit_live (state_after journal) pid.0 e.outcome n.next q.0 n.acts (λ (same : q.0 ≡ pid.0). not (live ∙ ap (λ m. Live (record { 0 = m })) (sym same))) h);
-      mine = λ p h. absurd cc;
-      fresh = λ p h. absurd cc;
-    }
-
-leave_keeps : (journal : List Entry) (x : Connection) → IsConnection x → IsOwner journal x → x.condition ≢ Closed → (process : Option Pid) → process_in x.condition ≡ process → Keeps journal x (exit_of journal x process) (over x)
-leave_keeps journal x is owner ne None e = dropped_keeps journal x ne
-leave_keeps journal x is owner ne (Some pid) e =
-    let live : x.condition ≡ Live pid = process_live x.condition x.calls pid e is.reached in
-    exit_keeps journal x pid live (owner pid live) (next_entry journal pid (End x.no) op.Exit nothing_read) refl
-
-end_keeps_by : (journal : List Entry) (x : Connection) → IsConnection x → IsOwner journal x → (condition : Condition) → x.condition ≡ condition
-    → Keeps journal x (end_by journal x condition).journal (end_by journal x condition).connection
-end_keeps_by journal x is owner Closed e = same_keeps journal x is owner
-end_keeps_by journal x is owner _ e = leave_keeps journal x is owner (λ closed. cc) _ (ap process_in e)
-
-pub end_keeps : (journal : List Entry) (x : Connection) → IsConnection x → IsOwner journal x → Keeps journal x (end_step journal x).journal (end_step journal x).connection
-end_keeps journal x is owner = end_keeps_by journal x is owner x.condition refl
+pub end_keeps : (journal : List Entry) (x : Connection) (finish : Finish) → IsConnection x → IsOwner journal x → AllByRecursion Fits (end_step journal x finish).connection.queue
+    → Keeps journal x (end_step journal x finish).journal (end_step journal x finish).connection
+end_keeps journal x finish is owner fit = end_keeps_by journal x is owner x.condition finish fit

@@ -1,5 +1,5 @@
 -- What one connection of the server holds.
-use Rattle.std.specs.Prelude.{ℕ, ◌+◌, ◌==◌, Bool, true, false, [], length, Option, None, Some, count_by}
+use Rattle.std.specs.Prelude.{ℕ, ◌+◌, ◌==◌, Bool, true, false, [], length, Option, None, Some, count_by, not}
 use Rattle.std.specs.List.{position_from}
 use Rattle.sp_base.specs.declared.names.ConnNo.{ConnNo}
 use Rattle.sp_base.specs.declared.names.Pid.{Pid}
@@ -35,6 +35,14 @@ abbrev pub takes_nothing : Condition → Bool
 takes_nothing Draining = true
 takes_nothing Closed = true
 takes_nothing _ = false
+
+-- a connection that sends what is queued and then is over: it takes nothing, and speaks for no process
+abbrev pub drained : Connection → Connection
+drained x = record x { condition = Draining; calls = [] }
+
+-- a connection speaks: it is neither draining nor over
+abbrev pub speaks : Condition → Bool
+speaks condition = not (takes_nothing condition)
 
 -- a body is the response of a call
 abbrev pub is_response_body : Body → Bool

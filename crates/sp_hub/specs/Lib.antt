@@ -3,4 +3,5 @@ pub mod Verdict
 pub mod Kernel
 pub mod Step
 pub mod Machine
+pub mod Task
 pub mod Sound

@@ -1,28 +1,33 @@
 -- The server machine: what it answers to an event, and what it is after it.
-use Rattle.std.specs.Prelude.{◌≡◌, ◌⊎◌, ℕ, ◌==◌, nat_lt, List, [], ◌∷◌, ◌++◌, slice_get, slice_set, Option, None, Some, if◌then◌else◌}
-use Rattle.std.specs.List.{list_all, position_from}
+use Rattle.std.specs.Prelude.{◌≡◌, ◌⊎◌, ℕ, ◌==◌, nat_lt, Bool, false, true, List, [], ◌∷◌, ◌++◌, slice_get, slice_set, Option, None, Some, if◌then◌else◌}
+use Rattle.std.specs.List.{list_all, list_any, position_from}
 use Rattle.sp_base.specs.declared.names.ConnNo.{ConnNo}
 use Rattle.kern_model.specs.declared.journal.Entry.{Entry}
 use Rattle.sp_hub.specs.declared.connection.Connection.{Connection}
 use Rattle.sp_hub.specs.declared.event.Event.{Event}
-use Rattle.sp_hub.specs.declared.event.Event.TheVariants.{Opened, Frame, Work, Take, Ended}
+use Rattle.sp_hub.specs.declared.event.Event.TheVariants.{Opened, Frame, Work, Take, Ended, Lost, Halt}
 use Rattle.sp_hub.specs.declared.event.Reply.{Reply}
 use Rattle.sp_hub.specs.declared.event.Reply.TheVariants as reply
-use Rattle.sp_hub.specs.Connection.{fresh_connection}
-use Rattle.sp_hub.specs.Step.{Step, frame_step, work_step, take_step, end_step}
+use Rattle.sp_hub.specs.Connection.{fresh_connection, speaks}
+use Rattle.sp_hub.specs.Step.{Step, frame_step, work_step, take_step, end_step, lost_step}
 
--- the journal of the kernel, whose state is the one that the journal leaves; and the connections, in the order in which they were opened
+-- the journal of the kernel, whose state is the one that the journal leaves; the connections, in the order in which they were opened; and whether the server has halted
 pub record Machine : Type 0 where
   pub journal : List Entry
   pub connections : List Connection
+  pub halted : Bool
 
--- the machine of a journal and connections
-abbrev pub machine_of : List Entry → List Connection → Machine
-machine_of journal connections = record { journal = journal; connections = connections }
+-- the machine of a journal and connections, halted or not
+abbrev pub machine_of : List Entry → List Connection → Bool → Machine
+machine_of journal connections halted = record { journal = journal; connections = connections; halted = halted }
+
+-- a machine that hasn't halted
+abbrev pub running : List Entry → List Connection → Machine
+running journal connections = machine_of journal connections false
 
 -- a machine to which nothing happened yet
 abbrev pub fresh_machine : Machine
-fresh_machine = machine_of [] []
+fresh_machine = running [] []
 
 -- what the machine answers, and the machine after it
 abbrev pub Played : Type 0
@@ -34,7 +39,7 @@ place_of connections c = position_from (λ x. x.no.0 == c.0) 0 connections
 
 -- the machine after a step of the connection at a place
 abbrev pub after_step : Machine → ℕ → Step → Played
-after_step m place step = (step.reply, machine_of step.journal (slice_set m.connections place step.connection))
+after_step m place step = (step.reply, record m { journal = step.journal; connections = slice_set m.connections place step.connection })
 
 -- a step of the connection at a place, if there is one
 abbrev pub step_of_found : Machine → Reply → (List Entry → Connection → Step) → ℕ → Option Connection → Played
@@ -57,13 +62,23 @@ opened m c =
     then (reply.Nothing, record m { connections = m.connections ++ fresh_connection c ∷ [] })
     else (reply.Closed, m)
 
--- an event happens
+-- the server halts, where no connection speaks any more
+abbrev pub halt : Machine → Played
+halt m = if list_any (λ x. speaks x.condition) m.connections then (reply.NotQuiet, m) else (reply.Closed, record m { halted = true })
+
+-- an event happens while the server hasn't halted
+abbrev pub played_running : Machine → Event → Played
+played_running m (Opened c) = opened m c
+played_running m (Frame c f salt) = on_connection m c reply.Closed (λ journal x. frame_step journal x f)
+played_running m (Work c r) = on_connection m c reply.Nothing (λ journal x. work_step journal x r)
+played_running m (Take c) = on_connection m c reply.Closed take_step
+played_running m (Ended c finish) = on_connection m c reply.Closed (λ journal x. end_step journal x finish)
+played_running m (Lost c) = on_connection m c reply.Closed lost_step
+played_running m Halt = halt m
+
+-- an event happens; once the server has halted, each event is answered Closed and changes nothing
 abbrev pub played : Machine → Event → Played
-played m (Opened c) = opened m c
-played m (Frame c f salt) = on_connection m c reply.Closed (λ journal x. frame_step journal x f)
-played m (Work c r) = on_connection m c reply.Nothing (λ journal x. work_step journal x r)
-played m (Take c) = on_connection m c reply.Closed take_step
-played m (Ended c finish) = on_connection m c reply.Closed end_step
+played m event = if m.halted then (reply.Closed, m) else played_running m event
 
 -- the machine answers and goes on as said; or, as the one other way, it wants memory and stays as it was
 abbrev pub PlaysOrStays : Played → Machine → Reply → Machine → Type 0

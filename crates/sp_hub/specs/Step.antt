@@ -3,9 +3,11 @@ use Rattle.std.specs.Prelude.{◌≡◌, ◌⊎◌, ℕ, List, [], ◌∷◌, �
 use Rattle.sp_base.specs.declared.names.Answer.{Answer}
 use Rattle.sp_base.specs.declared.names.Pid.{Pid}
 use Rattle.sp_base.specs.declared.names.ReqNo.{ReqNo}
+use Rattle.sp_base.specs.declared.names.SpError.{SpError}
 use Rattle.sp_base.specs.declared.names.SpError.TheVariants.{Malformed}
 use Rattle.sp_base.specs.declared.call.Call.{Call}
-use Rattle.sp_frames.specs.declared.frame.Body.TheVariants.{Hello, Answered}
+use Rattle.sp_frames.specs.declared.frame.Body.{Body}
+use Rattle.sp_frames.specs.declared.frame.Body.TheVariants as body
 use Rattle.sp_frames.specs.declared.frame.Frame.{Frame}
 use Rattle.kern_model.specs.declared.journal.Entry.{Entry}
 use Rattle.kern_model.specs.declared.journal.Who.TheVariants.{Request, End}
@@ -18,11 +20,13 @@ use Rattle.sp_hub.specs.declared.connection.Condition.{Condition}
 use Rattle.sp_hub.specs.declared.connection.Condition.TheVariants.{Live, Draining, Closed}
 use Rattle.sp_hub.specs.declared.connection.Connection.{Connection}
 use Rattle.sp_hub.specs.declared.connection.OpenCall.{OpenCall}
+use Rattle.sp_hub.specs.declared.event.Finish.{Finish}
+use Rattle.sp_hub.specs.declared.event.Finish.TheVariants.{Inside, Bad}
 use Rattle.sp_hub.specs.declared.event.Reply.{Reply}
 use Rattle.sp_hub.specs.declared.event.Reply.TheVariants as reply
 use Rattle.sp_hub.specs.declared.verdict.Verdict.{Verdict}
 use Rattle.sp_hub.specs.declared.verdict.Verdict.TheVariants as verdict
-use Rattle.sp_hub.specs.Connection.{over, process_in, place_of_call}
+use Rattle.sp_hub.specs.Connection.{over, drained, process_in, place_of_call}
 use Rattle.sp_hub.specs.Kernel.{answer_at}
 use Rattle.sp_hub.specs.Verdict.{verdict_of}
 
@@ -50,11 +54,11 @@ no_process = record { 0 = 0 }
 
 -- the response of a handshake
 abbrev pub hello : ReqNo → ℕ → Frame
-hello r pid = record { number = r; body = Hello (record { 0 = pid }) }
+hello r pid = record { number = r; body = body.Hello (record { 0 = pid }) }
 
 -- the response of a call
 abbrev pub answered : ReqNo → Answer → Frame
-answered r answer = record { number = r; body = Answered answer }
+answered r answer = record { number = r; body = body.Answered answer }
 
 -- the response of a call that was performed at a place
 abbrev pub response : ReqNo → Outcome → ℕ → Frame
@@ -77,10 +81,58 @@ open_step journal x f call = record {
   connection = record x { last = f.number; calls = x.calls ++ record { number = f.number; call = call } ∷ [] };
 }
 
--- a frame by its verdict; for now every refusal is answered Malformed, and changes nothing
+-- the journal with one entry more, where there is one
+abbrev pub with_entry : List Entry → Option Entry → List Entry
+with_entry journal None = journal
+with_entry journal (Some e) = journal ++ e ∷ []
+
+-- the journal after the exit of the process that a connection still has
+abbrev pub exit_of : List Entry → Connection → Option Pid → List Entry
+exit_of journal x None = journal
+exit_of journal x (Some pid) = with_entry journal (next_entry journal pid (End x.no) op.Exit nothing_read)
+
+-- the type of a request to which an error frame may answer
+abbrev pub answered_kind : Body → Option ℕ
+answered_kind (body.Guest name) = Some 0
+answered_kind (body.Join cookie name) = Some 0
+answered_kind (body.Image cookie name) = Some 0
+answered_kind (body.Sys num words) = Some 1
+answered_kind body.Prefork = Some 5
+answered_kind (body.Cancel cookie) = Some 5
+answered_kind body.Preexec = Some 6
+answered_kind _ = None
+
+-- an error frame
+abbrev pub refusal : ReqNo → ℕ → SpError → Frame
+refusal r kind why = record { number = r; body = body.Refused kind why }
+
+-- the last error of a connection: it answers the request that is malformed, or nothing by name
+abbrev pub last_error : ReqNo → Option ℕ → Frame
+last_error r (Some kind) = refusal r kind Malformed
+last_error r None = refusal (record { 0 = 0 }) 0 Malformed
+
+-- the connection drains: its error is queued last, its calls are dropped, and its process exits
+abbrev pub drain_step : Reply → List Entry → Connection → Frame → Step
+drain_step answer journal x f = record {
+  reply = answer;
+  journal = exit_of journal x (process_in x.condition);
+  connection = record (drained x) { queue = x.queue ++ f ∷ [] };
+}
+
+-- a request is refused: its error is queued, and its number is the last one
+abbrev pub refuse_step : List Entry → Connection → Frame → Option ℕ → SpError → Step
+refuse_step journal x f None why = stays (reply.Refused why) journal x
+refuse_step journal x f (Some kind) why = record {
+  reply = reply.Refused why;
+  journal = journal;
+  connection = record x { last = f.number; queue = x.queue ++ refusal f.number kind why ∷ [] };
+}
+
+-- a frame by its verdict
 abbrev pub frame_step_by : Verdict → List Entry → Connection → Frame → Step
 frame_step_by verdict.Closed journal x f = stays reply.Closed journal x
-frame_step_by (verdict.Refused why) journal x f = stays (reply.Refused Malformed) journal x
+frame_step_by verdict.Malformed journal x f = drain_step (reply.Refused Malformed) journal x (last_error f.number (answered_kind f.body))
+frame_step_by (verdict.Refused why) journal x f = refuse_step journal x f (answered_kind f.body) why
 frame_step_by verdict.Attach journal x f = attach_step journal x f (next_entry journal no_process (Request x.no f.number) op.Attach nothing_read)
 frame_step_by (verdict.Open call) journal x f = open_step journal x f call
 
@@ -122,21 +174,20 @@ take_from journal x condition (f ∷ queue) = record { reply = reply.Out f; jour
 abbrev pub take_step : List Entry → Connection → Step
 take_step journal x = take_from journal x x.condition x.queue
 
--- the journal with one entry more, where there is one
-abbrev pub with_entry : List Entry → Option Entry → List Entry
-with_entry journal None = journal
-with_entry journal (Some e) = journal ++ e ∷ []
+-- the connection is over: its calls and frames are dropped, and its process exits
+abbrev pub close_step : List Entry → Connection → Step
+close_step journal x = record { reply = reply.Nothing; journal = exit_of journal x (process_in x.condition); connection = over x }
 
--- the journal after the exit of the process that a connection still has
-abbrev pub exit_of : List Entry → Connection → Option Pid → List Entry
-exit_of journal x None = journal
-exit_of journal x (Some pid) = with_entry journal (next_entry journal pid (End x.no) op.Exit nothing_read)
+-- the connection's input ends: at bytes that are no frame a live one drains; else the connection is over
+abbrev pub end_by : List Entry → Connection → Condition → Finish → Step
+end_by journal x Closed finish = stays reply.Closed journal x
+end_by journal x (Live pid) (Bad fault) = drain_step reply.Nothing journal x (last_error (record { 0 = 0 }) None)
+end_by journal x condition finish = close_step journal x
 
--- a connection that isn't over yet ends: its calls and frames are dropped, and its process exits
-abbrev pub end_by : List Entry → Connection → Condition → Step
-end_by journal x Closed = stays reply.Closed journal x
-end_by journal x condition = record { reply = reply.Nothing; journal = exit_of journal x (process_in condition); connection = over x }
+-- the connection's input ends
+abbrev pub end_step : List Entry → Connection → Finish → Step
+end_step journal x finish = end_by journal x x.condition finish
 
--- the connection ends
-abbrev pub end_step : List Entry → Connection → Step
-end_step journal x = end_by journal x x.condition
+-- the connection's link is lost: the connection is over
+abbrev pub lost_step : List Entry → Connection → Step
+lost_step journal x = end_step journal x Inside

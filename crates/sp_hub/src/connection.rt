@@ -1,6 +1,6 @@
 ghost use Rattle.std.specs.Prelude.{◌≡◌, ◌<◌, ◌==◌, nat_le, length, count_by, IfSome};
 ghost use Rattle.std.specs.List.{position_from};
-ghost use Rattle.sp_hub.specs.Connection.{fresh_connection, over, process_in, is_fresh, takes_nothing, is_response, open_count, place_of_call};
+ghost use Rattle.sp_hub.specs.Connection.{fresh_connection, over, drained, process_in, is_fresh, takes_nothing, speaks, is_response, open_count, place_of_call};
 
 use sp_base::{Call, ConnNo, Items, Pid, ReqNo};
 use sp_frames::{Body, Frame};
@@ -71,6 +71,13 @@ impl Condition {
     {
         matches!(self, Condition::Draining | Condition::Closed)
     }
+
+    /// Whether the client may still send something.
+    pub(crate) fn speaks(self) -> bool
+        ensures { result ≡ speaks self }
+    {
+        !self.takes_nothing()
+    }
 }
 
 /// Whether a frame is the response of a call.
@@ -128,6 +135,14 @@ impl Connection {
         ensures within { IfSome result (λ place. place < length self.now.calls) }
     {
         place_of(self.calls.slice(), number)
+    }
+
+    /// Drains it: it drops its calls and takes nothing more, and sends what is queued.
+    pub(crate) fn drain(&mut self)
+        ensures { self.new ≡ drained self.old }
+    {
+        self.condition = Condition::Draining;
+        self.calls.clear();
     }
 
     /// Ends it: it drops its calls and frames, and takes nothing more.

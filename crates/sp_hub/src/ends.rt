@@ -5,13 +5,14 @@ ghost use Rattle.kern_model.specs.declared.journal.Entry.{Entry};
 ghost use Rattle.kern_model.specs.Journal.{state_after};
 ghost use Rattle.kern_model.specs.Table.{at};
 ghost use Rattle.sp_hub.specs.Connection.{process_in};
-ghost use Rattle.sp_hub.specs.Step.{StepsOrStays, take_step, exit_of, end_step};
+ghost use Rattle.sp_hub.specs.Step.{StepsOrStays, take_step, exit_of, close_step, end_step};
 
 use crate::connection::{Condition, Connection};
-use crate::event::Reply;
+use crate::event::{Finish, Reply};
 use crate::kernel::{Acted, Kernel};
+use crate::refusals::{drain, last_error};
 use kern_model::{Ins, Op, Who};
-use sp_base::{Items, NoMemory};
+use sp_base::{Items, NoMemory, ReqNo};
 
 /// Hands out the oldest queued frame.
 pub fn take(connection: &mut Connection) -> Reply
@@ -33,7 +34,7 @@ pub fn take(connection: &mut Connection) -> Reply
 }
 
 /// Ends the process that a connection still has; on want of memory nothing changes.
-fn exit(kernel: &mut Kernel, connection: &Connection) -> Result<(), NoMemory>
+pub fn exit(kernel: &mut Kernel, connection: &Connection) -> Result<(), NoMemory>
     requires { IfSome (process_in connection.now.condition) (λ pid. IsSome (at (state_after kernel.old).processes pid.0)) }
     ensures ok { OnOk result (kernel.new ≡ exit_of kernel.old connection.now (process_in connection.now.condition)) }
     ensures err { OnErr result (kernel.new ≡ kernel.old) }
@@ -49,18 +50,31 @@ fn exit(kernel: &mut Kernel, connection: &Connection) -> Result<(), NoMemory>
     }
 }
 
-/// Ends a connection: its process exits, and its calls and frames are dropped.
-pub fn end(kernel: &mut Kernel, connection: &mut Connection) -> Reply
+/// Closes a connection: its process exits, and its calls and frames are dropped.
+fn close(kernel: &mut Kernel, connection: &mut Connection) -> Reply
     requires live { IfSome (process_in connection.old.condition) (λ pid. IsSome (at (state_after kernel.old).processes pid.0)) }
-    ensures step { StepsOrStays (end_step kernel.old connection.old) kernel.old connection.old result kernel.new connection.new }
+    ensures step { StepsOrStays (close_step kernel.old connection.old) kernel.old connection.old result kernel.new connection.new }
     ensures fit { AllByRecursion Fits connection.old.queue → AllByRecursion Fits connection.new.queue }
 {
-    if connection.condition == Condition::Closed {
-        return Reply::Closed;
-    }
     if exit(kernel, connection).is_err() {
         return Reply::NoMemory;
     }
     connection.end();
     Reply::Nothing
+}
+
+/// A connection's input ends: at bytes that are no frame a live one drains; else the connection is over.
+pub fn end(kernel: &mut Kernel, connection: &mut Connection, finish: Finish) -> Reply
+    requires live { IfSome (process_in connection.old.condition) (λ pid. IsSome (at (state_after kernel.old).processes pid.0)) }
+    ensures step { StepsOrStays (end_step kernel.old connection.old finish) kernel.old connection.old result kernel.new connection.new }
+    ensures fit { AllByRecursion Fits connection.old.queue → AllByRecursion Fits connection.new.queue }
+{
+    match (connection.condition, finish) {
+        (Condition::Closed, _) => Reply::Closed,
+        (Condition::Live(_), Finish::Bad(_)) => {
+            let error = last_error(ReqNo(0), None);
+            drain(kernel, connection, Reply::Nothing, error)
+        }
+        _ => close(kernel, connection),
+    }
 }

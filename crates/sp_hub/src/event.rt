@@ -25,6 +25,10 @@ pub enum Event {
     Take(ConnNo),
     /// The connection's input ended.
     Ended(ConnNo, Finish),
+    /// The connection's link was lost.
+    Lost(ConnNo),
+    /// The server is to take nothing more.
+    Halt,
 }
 
 /// What the server answers to an event.
@@ -40,6 +44,8 @@ pub enum Reply {
     Out(Frame),
     /// There was nothing to do, or no more than was asked.
     Nothing,
+    /// The server can't halt yet: a connection still speaks.
+    NotQuiet,
     /// The frame was refused.
     Refused(SpError),
     /// The connection takes no such event any more, or was never opened.

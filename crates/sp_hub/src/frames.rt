@@ -1,15 +1,18 @@
-ghost use Rattle.std.specs.Prelude.{◌≡◌, List};
+ghost use Rattle.std.specs.Prelude.{◌≡◌, List, IfSome, IsSome};
 ghost use Rattle.std.specs.List.{AllByRecursion};
 ghost use Rattle.sp_frames.specs.Grammar.{Fits};
 ghost use Rattle.kern_model.specs.declared.journal.Entry.{Entry};
 ghost use Rattle.kern_model.specs.declared.journal.Who.TheVariants.{Request};
 ghost use Rattle.kern_model.specs.declared.operation.Op.TheVariants as op;
-ghost use Rattle.kern_model.specs.Journal.{next_entry};
+ghost use Rattle.kern_model.specs.Journal.{next_entry, state_after};
+ghost use Rattle.kern_model.specs.Table.{at};
+ghost use Rattle.sp_hub.specs.Connection.{process_in};
 ghost use Rattle.sp_hub.specs.Step.{StepsOrStays, attach_step, open_step, frame_step, hello, no_process, nothing_read};
 
 use crate::connection::{Condition, Connection, OpenCall};
 use crate::event::Reply;
 use crate::kernel::{Acted, Kernel};
+use crate::refusals::{answered_kind, drain, last_error, refuse};
 use crate::room::take_room;
 use crate::verdict::{self, Verdict};
 use kern_model::{Ins, Op, Who};
@@ -74,12 +77,22 @@ fn open(connection: &mut Connection, frame: &Frame, call: Call) -> Reply
 
 /// A frame comes over a connection.
 pub fn frame(kernel: &mut Kernel, connection: &mut Connection, frame: &Frame) -> Reply
+    requires live { IfSome (process_in connection.old.condition) (λ pid. IsSome (at (state_after kernel.old).processes pid.0)) }
     ensures step { StepsOrStays (frame_step kernel.old connection.old frame.now) kernel.old connection.old result kernel.new connection.new }
     ensures fit { AllByRecursion Fits connection.old.queue → AllByRecursion Fits connection.new.queue }
 {
     match verdict::on_frame(kernel, connection, frame) {
         Verdict::Closed => Reply::Closed,
-        Verdict::Refused(_) => Reply::Refused(SpError::Malformed),
+        Verdict::Malformed => {
+            let error = last_error(frame.number, answered_kind(&frame.body));
+            drain(
+                kernel,
+                connection,
+                Reply::Refused(SpError::Malformed),
+                error,
+            )
+        }
+        Verdict::Refused(why) => refuse(kernel, connection, frame, why),
         Verdict::Attach => attach(kernel, connection, frame),
         Verdict::Open(call) => open(connection, frame, call),
     }

@@ -7,7 +7,9 @@ mod event;
 mod frames;
 mod hub;
 mod kernel;
+mod refusals;
 mod room;
+mod tasks;
 #[cfg(test)]
 mod tests;
 mod verdict;

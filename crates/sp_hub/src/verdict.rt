@@ -1,10 +1,9 @@
 ghost use Rattle.std.specs.Prelude.{◌≡◌};
 ghost use Rattle.kern_model.specs.Journal.{state_after};
-ghost use Rattle.sp_hub.specs.Verdict.{call_verdict, guest_verdict, verdict_of};
+ghost use Rattle.sp_hub.specs.Verdict.{call_verdict, guest_verdict, is_taken, verdict_of};
 
 use crate::connection::Connection;
 use crate::kernel::Kernel;
-use kern_model::is_built;
 use sp_base::{Call, SpError, Words};
 use sp_frames::{Body, Frame};
 
@@ -13,7 +12,9 @@ use sp_frames::{Body, Frame};
 pub enum Verdict {
     /// The connection takes nothing any more.
     Closed,
-    /// It is refused.
+    /// It is malformed: the connection is drained, and then over.
+    Malformed,
+    /// It is refused with this error, and the connection goes on.
     Refused(SpError),
     /// It makes a process.
     Attach,
@@ -21,18 +22,28 @@ pub enum Verdict {
     Open(Call),
 }
 
+/// Whether the server takes the call by now; a call outside the table is taken, as one that fails.
+fn is_taken(call: &Call) -> bool
+    ensures { result ≡ is_taken call.now }
+{
+    matches!(
+        call,
+        Call::Getpid | Call::Close { .. } | Call::Unknown { .. }
+    )
+}
+
 /// What becomes of a system call.
 fn on_call(connection: &Connection, num: u32, words: &Words) -> Verdict
     ensures { result ≡ call_verdict connection.now num words.now }
 {
     if connection.condition.is_fresh() {
-        return Verdict::Refused(SpError::Malformed);
+        return Verdict::Malformed;
     }
     let Ok(call) = Call::of_words(num, words) else {
-        return Verdict::Refused(SpError::Malformed);
+        return Verdict::Malformed;
     };
-    if !is_built(&call) {
-        Verdict::Refused(SpError::Malformed)
+    if !is_taken(&call) {
+        Verdict::Malformed
     } else if connection.condition.process().is_none() {
         Verdict::Refused(SpError::InExec)
     } else if connection.is_busy() {
@@ -47,7 +58,7 @@ fn on_guest(kernel: &Kernel, connection: &Connection) -> Verdict
     ensures { result ≡ guest_verdict (state_after kernel.now) connection.now }
 {
     if !connection.condition.is_fresh() {
-        Verdict::Refused(SpError::Malformed)
+        Verdict::Malformed
     } else if kernel.is_full() {
         Verdict::Refused(SpError::ProcFull)
     } else {
@@ -63,11 +74,11 @@ pub fn on_frame(kernel: &Kernel, connection: &Connection, frame: &Frame) -> Verd
         return Verdict::Closed;
     }
     if frame.number.0 <= connection.last.0 {
-        return Verdict::Refused(SpError::Malformed);
+        return Verdict::Malformed;
     }
     match &frame.body {
         Body::Guest { .. } => on_guest(kernel, connection),
         Body::Sys { num, words } => on_call(connection, *num, words),
-        _ => Verdict::Refused(SpError::Malformed),
+        _ => Verdict::Malformed,
     }
 }

@@ -1,11 +1,11 @@
 ghost use Rattle.std.specs.Prelude.{◌≡◌, ◌<◌, length, slice_get, IfSome, IsSome, IsTrue, Some};
 ghost use Rattle.std.specs.List.{AllByRecursion};
 ghost use Rattle.sp_frames.specs.Grammar.{Fits};
-ghost use Rattle.kern_model.specs.Act.{is_built};
 ghost use Rattle.kern_model.specs.Journal.{state_after};
 ghost use Rattle.kern_model.specs.Table.{at};
 ghost use Rattle.sp_hub.specs.Connection.{process_in};
 ghost use Rattle.sp_hub.specs.Step.{StepsOrStays, answered, work_call, work_step};
+ghost use Rattle.sp_hub.specs.Verdict.{is_taken};
 
 use crate::connection::{Connection, OpenCall};
 use crate::event::Reply;
@@ -17,7 +17,7 @@ use sp_frames::{Body, Frame};
 
 /// The same call; the journal keeps it while the connection still has it.
 fn copy(call: &Call) -> Call
-    requires { IsTrue (is_built call.now) }
+    requires { IsTrue (is_taken call.now) }
     ensures { result ≡ call.now }
 {
     match call {
@@ -46,7 +46,7 @@ fn response(number: ReqNo, answer: Answer) -> Frame
 fn perform(kernel: &mut Kernel, connection: &mut Connection, place: usize, pid: Pid) -> Reply
     requires place { place < length connection.old.calls }
     requires live { IsSome (at (state_after kernel.old).processes pid.0) }
-    requires built { AllByRecursion (λ t. IsTrue (is_built t.call)) connection.old.calls }
+    requires taken { AllByRecursion (λ t. IsTrue (is_taken t.call)) connection.old.calls }
     ensures step { StepsOrStays (work_call kernel.old connection.old place (slice_get connection.old.calls place) (Some pid)) kernel.old connection.old result kernel.new connection.new }
     ensures fit { AllByRecursion Fits connection.old.queue → AllByRecursion Fits connection.new.queue }
 {
@@ -78,7 +78,7 @@ fn perform(kernel: &mut Kernel, connection: &mut Connection, place: usize, pid: 
 /// Works an open call, for the process of its connection.
 pub fn work(kernel: &mut Kernel, connection: &mut Connection, number: ReqNo) -> Reply
     requires live { IfSome (process_in connection.old.condition) (λ pid. IsSome (at (state_after kernel.old).processes pid.0)) }
-    requires built { AllByRecursion (λ t. IsTrue (is_built t.call)) connection.old.calls }
+    requires taken { AllByRecursion (λ t. IsTrue (is_taken t.call)) connection.old.calls }
     ensures step { StepsOrStays (work_step kernel.old connection.old number) kernel.old connection.old result kernel.new connection.new }
     ensures fit { AllByRecursion Fits connection.old.queue → AllByRecursion Fits connection.new.queue }
 {

@@ -1,4 +1,3 @@
-use Rattle.std.proofs.Common.{sym}
 use Rattle.rump_sp.proofs.RunLaws.{none_called, ready_for, one_more, all_called}
 use Rattle.rump_sp.proofs.run.call_all.Goals as goal
 

@@ -1,5 +1,5 @@
 use Rattle.std.proofs.Common.{arith}
-use Rattle.sp_frames.proofs.RowLaws.{body_read}
+use Rattle.sp_frames.proofs.ReadLaws.{body_read}
 use Rattle.sp_frames.proofs.writing.header.Goals as goal
 
 pub overflow_add-result : goal.overflow_add-result

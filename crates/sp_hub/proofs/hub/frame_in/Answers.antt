@@ -1,14 +1,20 @@
 use Rattle.std.proofs.Common.{sym}
 use Rattle.sp_hub.specs.declared.event.Reply.TheVariants.{Closed}
-use Rattle.sp_hub.specs.Machine.{Machine, machine_of}
+use Rattle.sp_hub.specs.Machine.{Machine, running}
 use Rattle.sp_hub.specs.Step.{frame_step}
-use Rattle.sp_hub.proofs.Machines.{here, owner_at, plays, plays_sound}
+use Rattle.sp_hub.proofs.Machines.{here, owner_at, speaks, plays, plays_sound}
 use Rattle.sp_hub.proofs.Steps.{frame_keeps}
 use Rattle.sp_hub.proofs.hub.frame_in.Goals as goal
 
+pub frame-requires : goal.frame-requires
+frame-requires c =
+    let x = c.index_mut-connection.result.now in
+    let there = here c.args.connections.now.items c.deref.result.now c.in-Some.place x _ c.deref.ensures.value c.in-Some.ensures.within c.index_mut-connection.ensures.value in
+    record { live = speaks (running c.args.kernel.now c.args.connections.now.items) c.in-Some.place x c.requires.sound there }
+
 pub returns-clause-plays : goal.returns-clause-plays
 returns-clause-plays c =
-    let m : Machine = machine_of c.args.kernel.now c.args.connections.now.items in
+    let m : Machine = running c.args.kernel.now c.args.connections.now.items in
     let x = c.index_mut-connection.result.now in
     let there = here c.args.connections.now.items c.deref.result.now c.in-Some.place x _ c.deref.ensures.value c.in-Some.ensures.within c.index_mut-connection.ensures.value in
     let which = sym (rw c.deref.ensures.value at c.in-Some.ensures.which) in
@@ -16,7 +22,7 @@ returns-clause-plays c =
 
 pub returns-clause-sound : goal.returns-clause-sound
 returns-clause-sound c =
-    let m : Machine = machine_of c.args.kernel.now c.args.connections.now.items in
+    let m : Machine = running c.args.kernel.now c.args.connections.now.items in
     let x = c.index_mut-connection.result.now in
     let there = here c.args.connections.now.items c.deref.result.now c.in-Some.place x _ c.deref.ensures.value c.in-Some.ensures.within c.index_mut-connection.ensures.value in
     let is = c.requires.sound.each c.in-Some.place x there in

@@ -1,6 +1,6 @@
 use Rattle.std.proofs.Common.{inl, sym, subst, List}
 use Rattle.sp_hub.specs.declared.connection.Connection.{Connection}
-use Rattle.sp_hub.specs.Machine.{Machine, machine_of}
+use Rattle.sp_hub.specs.Machine.{Machine, running}
 use Rattle.sp_hub.specs.Sound.{IsSound}
 use Rattle.sp_hub.proofs.Machines.{not_opened, opened_is}
 use Rattle.sp_hub.proofs.Sound.{pushed_sound}
@@ -8,15 +8,15 @@ use Rattle.sp_hub.proofs.hub.open_in.Goals as goal
 
 pub returns-then-not-is_above-clause-plays : goal.returns-then-not-is_above-clause-plays
 returns-then-not-is_above-clause-plays c =
-    let m : Machine = machine_of c.args.kernel.now c.args.connections.now.items in
+    let m : Machine = running c.args.kernel.now c.args.connections.now.items in
     inl (not_opened m c.args.no (sym (rw c.deref.ensures.value at c.if-not-is_above.ensures)))
 
 pub returns-in-Ok-clause-plays : goal.returns-in-Ok-clause-plays
 returns-in-Ok-clause-plays c =
-    let m : Machine = machine_of c.args.kernel.now c.args.connections.now.items in
+    let m : Machine = running c.args.kernel.now c.args.connections.now.items in
     inl (opened_is m c.args.no c.add.new.connections.items (sym (rw c.deref.ensures.value at c.if-not-is_above.ensures)) c.in-Ok.ensures.ok)
 
 pub returns-in-Ok-clause-sound : goal.returns-in-Ok-clause-sound
 returns-in-Ok-clause-sound c =
-    let m : Machine = machine_of c.args.kernel.now c.args.connections.now.items in
-    subst (λ (xs : List Connection). IsSound (machine_of c.args.kernel.now xs)) (sym c.in-Ok.ensures.ok) (pushed_sound m c.args.no c.requires.sound (sym (rw c.deref.ensures.value at c.if-not-is_above.ensures)))
+    let m : Machine = running c.args.kernel.now c.args.connections.now.items in
+    subst (λ (xs : List Connection). IsSound (running c.args.kernel.now xs)) (sym c.in-Ok.ensures.ok) (pushed_sound m c.args.no c.requires.sound (sym (rw c.deref.ensures.value at c.if-not-is_above.ensures)))

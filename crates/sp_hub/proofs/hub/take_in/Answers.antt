@@ -1,4 +1,4 @@
-use Rattle.sp_hub.specs.Machine.{Machine, machine_of}
+use Rattle.sp_hub.specs.Machine.{Machine, running}
 use Rattle.sp_hub.specs.Step.{take_step}
 use Rattle.sp_hub.proofs.Machines.{here, owner_at, step_keeps}
 use Rattle.sp_hub.proofs.Sound.{sound_step}
@@ -7,7 +7,7 @@ use Rattle.sp_hub.proofs.hub.take_in.Goals as goal
 
 pub returns-clause-sound : goal.returns-clause-sound
 returns-clause-sound c journal sound =
-    let m : Machine = machine_of journal c.args.connections.now.items in
+    let m : Machine = running journal c.args.connections.now.items in
     let x = c.index_mut-connection.result.now in
     let there = here c.args.connections.now.items c.deref.result.now c.in-Some.place x _ c.deref.ensures.value c.in-Some.ensures.within c.index_mut-connection.ensures.value in
     let is = sound.each c.in-Some.place x there in

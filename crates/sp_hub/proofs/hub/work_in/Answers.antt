@@ -1,6 +1,6 @@
 use Rattle.std.proofs.Common.{sym}
 use Rattle.sp_hub.specs.declared.event.Reply.TheVariants.{Nothing}
-use Rattle.sp_hub.specs.Machine.{Machine, machine_of}
+use Rattle.sp_hub.specs.Machine.{Machine, running}
 use Rattle.sp_hub.specs.Step.{work_step}
 use Rattle.sp_hub.proofs.Machines.{here, owner_at, speaks, plays, plays_sound}
 use Rattle.sp_hub.proofs.Steps.{work_keeps}
@@ -10,17 +10,17 @@ pub work-requires-clause-live : goal.work-requires-clause-live
 work-requires-clause-live c =
     let x = c.index_mut-connection.result.now in
     let there = here c.args.connections.now.items c.deref.result.now c.in-Some.place x _ c.deref.ensures.value c.in-Some.ensures.within c.index_mut-connection.ensures.value in
-    speaks (machine_of c.args.kernel.now c.args.connections.now.items) c.in-Some.place x c.requires.sound there
+    speaks (running c.args.kernel.now c.args.connections.now.items) c.in-Some.place x c.requires.sound there
 
-pub work-requires-clause-built : goal.work-requires-clause-built
-work-requires-clause-built c =
+pub work-requires-clause-taken : goal.work-requires-clause-taken
+work-requires-clause-taken c =
     let x = c.index_mut-connection.result.now in
     let there = here c.args.connections.now.items c.deref.result.now c.in-Some.place x _ c.deref.ensures.value c.in-Some.ensures.within c.index_mut-connection.ensures.value in
-    (c.requires.sound.each c.in-Some.place x there).built
+    (c.requires.sound.each c.in-Some.place x there).taken
 
 pub returns-clause-plays : goal.returns-clause-plays
 returns-clause-plays c =
-    let m : Machine = machine_of c.args.kernel.now c.args.connections.now.items in
+    let m : Machine = running c.args.kernel.now c.args.connections.now.items in
     let x = c.index_mut-connection.result.now in
     let there = here c.args.connections.now.items c.deref.result.now c.in-Some.place x _ c.deref.ensures.value c.in-Some.ensures.within c.index_mut-connection.ensures.value in
     let which = sym (rw c.deref.ensures.value at c.in-Some.ensures.which) in
@@ -28,7 +28,7 @@ returns-clause-plays c =
 
 pub returns-clause-sound : goal.returns-clause-sound
 returns-clause-sound c =
-    let m : Machine = machine_of c.args.kernel.now c.args.connections.now.items in
+    let m : Machine = running c.args.kernel.now c.args.connections.now.items in
     let x = c.index_mut-connection.result.now in
     let there = here c.args.connections.now.items c.deref.result.now c.in-Some.place x _ c.deref.ensures.value c.in-Some.ensures.within c.index_mut-connection.ensures.value in
     let is = c.requires.sound.each c.in-Some.place x there in

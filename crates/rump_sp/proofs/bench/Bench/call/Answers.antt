@@ -1,5 +1,4 @@
-use Rattle.std.proofs.Common.{sym, ap, ◌∙◌}
-use Rattle.rump_sp.proofs.CallLaws.{IsAsked, asked_by, task, done, waits, says, called}
+use Rattle.rump_sp.proofs.CallLaws.{asked_by, task, done, waits, says, called}
 use Rattle.rump_sp.proofs.bench.Bench.call.Goals as goal
 
 pub unreachable-requires : goal.unreachable-requires
