@@ -202,6 +202,13 @@ impl Framer {
         self.ready.pop_front()
     }
 
+    /// How many bytes stand after the last whole frame.
+    pub fn unread(&self) -> usize
+        ensures { result ≡ length self.now.rest }
+    {
+        self.bytes.len()
+    }
+
     /// Whether bytes stand after the last whole frame.
     pub fn inside(&self) -> bool
         ensures { IsTrue result ↔ (self.now.rest ≢ []) }
