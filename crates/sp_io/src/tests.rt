@@ -1,11 +1,13 @@
 // What no clause says: that calls with ample memory succeed, and that each failing call is the one told.
 use crate::{
-    Failed, IoFault, MemSink, MemSource, ReadSource, Sink, Source, TakeFault, WriteSink, put_all,
-    take_all,
+    Failed, IoFault, MemSalt, MemSink, MemSource, RandomSalt, ReadSource, Salt, Sink, Source,
+    TakeFault, WriteSink, put_all, take_all,
 };
 use sp_base::NoMemory;
 use std::alloc::Global;
+use std::cell::Cell;
 use std::io::{self, ErrorKind, Read, Write};
+use std::random::RandomSource;
 use std::test::Fail;
 
 /// What `take_all` gives of so many bytes, where the calls of these numbers fail: their count, or why none.
@@ -183,5 +185,55 @@ fn ends_and_errors(rt: HostRuntime) -> Result<(), Fail> {
     assert_eq!(rt; IoFault::from(NoMemory), IoFault::NoMemory);
     assert_eq!(rt; TakeFault::from(NoMemory), TakeFault::NoMemory);
     assert_eq!(rt; TakeFault::from(IoFault::Failed), TakeFault::Failed);
+    Ok(())
+}
+
+/// What three calls of `next` answer.
+fn draws<S: Salt>(salt: &mut S) -> [Result<u64, Failed>; 3] {
+    [salt.next(), salt.next(), salt.next()]
+}
+
+#[test]
+fn counts_up(rt: HostRuntime) -> Result<(), Fail> {
+    let mut salt = MemSalt::of(rt.alloc(), u64::MAX, &[1])?;
+    assert_eq!(rt; draws(&mut salt), [Ok(u64::MAX), Err(Failed), Ok(0)]);
+    let mut other = salt.another(rt.alloc())?;
+    assert_eq!(rt; draws(&mut other), [Ok(u64::MAX), Err(Failed), Ok(0)]);
+    salt.back(other);
+    assert_eq!(rt; draws(&mut salt), [Ok(1), Ok(2), Ok(3)]);
+    Ok(())
+}
+
+/// A random source whose calls give bytes that tell their number, and whose second call fails.
+#[derive(Drop)]
+struct Numbered {
+    calls: Cell<u8>,
+}
+
+impl RandomSource for Numbered {
+    fn fill_bytes(&self, buf: &mut [u8]) -> io::Result<()> {
+        let call = self.calls.get();
+        self.calls.set(call.saturating_add(1));
+        if call == 1 {
+            return Err(io::Error::from(ErrorKind::Interrupted));
+        }
+        if let Some(byte) = buf.first_mut() {
+            *byte = call;
+        }
+        Ok(())
+    }
+}
+
+#[test]
+fn draws_of_the_random_source(rt: HostRuntime) -> Result<(), Fail> {
+    let numbered = Numbered {
+        calls: Cell::new(0),
+    };
+    let mut salt = RandomSalt::over(&numbered);
+    assert_eq!(rt; draws(&mut salt), [Ok(0), Err(Failed), Ok(2)]);
+    let mut other = salt.another(rt.alloc())?;
+    assert_eq!(rt; draws(&mut other), [Ok(3), Ok(4), Ok(5)]);
+    salt.back(other);
+    assert_eq!(rt; salt.next(), Ok(6));
     Ok(())
 }
