@@ -1,80 +1,74 @@
--- What each operation does: the first case that applies, in the order written.
-use Rattle.std.specs.Prelude.{ℕ, Bool, true, false, Option, None, Some}
+-- What each operation does.
+use Rattle.std.specs.Prelude.{ℕ, Bool, true, false, List, [], ◌∷◌, None}
 use Rattle.sp_base.specs.declared.call.Call.{Call}
-use Rattle.sp_base.specs.declared.call.Call.TheVariants.{Getpid, Close, Unknown}
-use Rattle.sp_base.specs.declared.errno.Errno.{Errno}
-use Rattle.sp_base.specs.declared.errno.Errno.TheVariants.{Ebadf, Eagain, Enosys}
+use Rattle.sp_base.specs.declared.call.Call.TheVariants as call
+use Rattle.sp_base.specs.declared.errno.Errno.TheVariants.{Enosys}
 use Rattle.kern_model.specs.declared.operation.Op.{Op}
 use Rattle.kern_model.specs.declared.operation.Op.TheVariants.{Sys, Attach, Fork, Exec, Exit}
 use Rattle.kern_model.specs.declared.operation.Ins.{Ins}
 use Rattle.kern_model.specs.declared.operation.Ins.TheVariants.{Given, Fault}
-use Rattle.kern_model.specs.declared.outcome.Outcome.{Outcome}
-use Rattle.kern_model.specs.Table.{at, lowest_unused}
-use Rattle.kern_model.specs.Outcome.{success, failure}
-use Rattle.kern_model.specs.State.{State, fresh_process, rows_of, with_process, with_row}
+use Rattle.kern_model.specs.State.{State}
+use Rattle.kern_model.specs.Step.{Step, failed}
+use Rattle.kern_model.specs.Descriptors.{act_attach, act_fork, act_exec, act_exit, act_getpid, act_close, act_dup, act_dup2, act_fcntl}
+use Rattle.kern_model.specs.Files.{act_open, act_read, act_pread, act_write, act_pwrite, act_lseek, act_ftruncate, act_fstat, act_stat}
+use Rattle.kern_model.specs.Links.{act_link, act_unlink, act_rename, act_mkdir, act_rmdir, act_chdir}
 
--- an outcome and the state after it, or nothing where the operation waits
-abbrev pub Step : Type 0
-Step = Option (Outcome × State)
+-- the piece at the front of what was gathered, empty where there is none
+abbrev pub first : List (List ℕ) → List ℕ
+first [] = []
+first (piece ∷ pieces) = piece
 
--- the error, and the same state
-abbrev pub failed : Errno → State → Step
-failed error s = Some (failure error, s)
+-- the piece behind the first
+abbrev pub second : List (List ℕ) → List ℕ
+second [] = []
+second (piece ∷ pieces) = first pieces
 
--- the value, and the state after it
-abbrev pub answered : ℕ → State → Step
-answered value s = Some (success value, s)
+-- a system call, with the pieces that it read; one that isn't built yet has no step
+abbrev pub act_call : State → ℕ → Call → List (List ℕ) → Step
+act_call s pid call.Getpid pieces = act_getpid s pid
+act_call s pid (call.Open path flags) pieces = act_open s pid (first pieces) flags
+act_call s pid (call.Close fd) pieces = act_close s pid fd
+act_call s pid (call.Read fd out len) pieces = act_read s pid fd out len
+act_call s pid (call.Write fd input len) pieces = act_write s pid fd (first pieces)
+act_call s pid (call.Pread fd out len offset) pieces = act_pread s pid fd out len offset
+act_call s pid (call.Pwrite fd input len offset) pieces = act_pwrite s pid fd (first pieces) offset
+act_call s pid (call.Lseek fd offset whence) pieces = act_lseek s pid fd offset whence
+act_call s pid (call.Ftruncate fd len) pieces = act_ftruncate s pid fd len
+act_call s pid (call.Fstat fd out) pieces = act_fstat s pid fd out
+act_call s pid (call.Stat path out) pieces = act_stat s pid (first pieces) out
+act_call s pid (call.Link path new_path) pieces = act_link s pid (first pieces) (second pieces)
+act_call s pid (call.Unlink path) pieces = act_unlink s pid (first pieces)
+act_call s pid (call.Rename path new_path) pieces = act_rename s pid (first pieces) (second pieces)
+act_call s pid (call.Mkdir path) pieces = act_mkdir s pid (first pieces)
+act_call s pid (call.Rmdir path) pieces = act_rmdir s pid (first pieces)
+act_call s pid (call.Chdir path) pieces = act_chdir s pid (first pieces)
+act_call s pid (call.Dup fd) pieces = act_dup s pid fd
+act_call s pid (call.Dup2 fd new_fd) pieces = act_dup2 s pid fd new_fd
+act_call s pid (call.Fcntl fd command argument) pieces = act_fcntl s pid fd command argument
+act_call s pid (call.Unknown num words) pieces = failed Enosys s
+act_call s pid _ pieces = None
 
--- what is done with what was found, and the error where nothing was
-abbrev pub or_fail : {X : Type 0} → Option X → Errno → State → (X → Step) → Step
-or_fail None error s act_with = failed error s
-or_fail (Some x) error s act_with = act_with x
-
--- attach: EAGAIN where no number is unused; else a process with no descriptors, under the lowest unused number
-abbrev pub act_attach : State → Step
-act_attach s = or_fail (lowest_unused s.processes 2) Eagain s (λ pid.
-    answered pid (with_process s pid (Some fresh_process)))
-
--- exit: the process and its rows are gone
-abbrev pub act_exit : State → ℕ → Step
-act_exit s pid = answered 0 (with_process s pid None)
-
--- getpid: the process's number
-abbrev pub act_getpid : State → ℕ → Step
-act_getpid s pid = answered pid s
-
--- close: EBADF where the descriptor isn't open; else its row is gone
-abbrev pub act_close : State → ℕ → ℕ → Step
-act_close s pid fd = or_fail (at (rows_of s pid) fd) Ebadf s (λ row. answered 0 (with_row s pid fd None))
-
--- a system call; one that isn't built yet has no step
-abbrev pub act_call : State → ℕ → Call → Step
-act_call s pid Getpid = act_getpid s pid
-act_call s pid (Close fd) = act_close s pid fd
-act_call s pid (Unknown num words) = failed Enosys s
-act_call s pid _ = None
-
--- an operation with all that it reads; a fork and an exec aren't built yet
-abbrev pub act_op : State → ℕ → Op → Step
-act_op s pid (Sys call) = act_call s pid call
-act_op s pid Attach = act_attach s
-act_op s pid Exit = act_exit s pid
-act_op s pid Fork = None
-act_op s pid Exec = None
+-- an operation with all that it read
+abbrev pub act_op : State → ℕ → Op → List (List ℕ) → Step
+act_op s pid (Sys call) pieces = act_call s pid call pieces
+act_op s pid Attach pieces = act_attach s
+act_op s pid Fork pieces = act_fork s pid
+act_op s pid Exec pieces = act_exec s pid
+act_op s pid Exit pieces = act_exit s pid
 
 -- an operation: ins that are a fault give that error, and the same state
 abbrev pub act : State → ℕ → Op → Ins → Step
 act s pid op (Fault error) = failed error s
-act s pid op (Given pieces) = act_op s pid op
+act s pid op (Given pieces) = act_op s pid op pieces
 
--- the calls that are built by now
+-- the calls that the server takes by now
 abbrev pub is_built : Call → Bool
-is_built Getpid = true
-is_built (Close fd) = true
-is_built (Unknown num words) = true
+is_built call.Getpid = true
+is_built (call.Close fd) = true
+is_built (call.Unknown num words) = true
 is_built _ = false
 
--- the operations that are built by now
+-- the operations that the server takes by now
 abbrev pub is_built_op : Op → Bool
 is_built_op (Sys call) = is_built call
 is_built_op Attach = true

@@ -1,17 +1,17 @@
 -- Legal journals.
 use Rattle.std.specs.Prelude.{◌≡◌, ℕ, List, [], ◌∷◌, Option, None, Some, IsSome}
 use Rattle.std.specs.List.{AllByRecursion}
-use Rattle.sp_base.specs.declared.call.Call.{Call}
 use Rattle.sp_base.specs.declared.names.Pid.{Pid}
 use Rattle.kern_model.specs.declared.journal.Entry.{Entry}
 use Rattle.kern_model.specs.declared.journal.Who.{Who}
 use Rattle.kern_model.specs.declared.operation.Op.{Op}
 use Rattle.kern_model.specs.declared.operation.Op.TheVariants.{Sys, Attach, Fork, Exec, Exit}
 use Rattle.kern_model.specs.declared.operation.Ins.{Ins}
-use Rattle.kern_model.specs.declared.operation.Ins.TheVariants.{Given, Fault}
 use Rattle.kern_model.specs.Table.{at}
 use Rattle.kern_model.specs.State.{State, opening}
-use Rattle.kern_model.specs.Act.{Step, act}
+use Rattle.kern_model.specs.Step.{Step}
+use Rattle.kern_model.specs.Needs.{FitsIns}
+use Rattle.kern_model.specs.Act.{act}
 
 -- the process that asks: 0 for an attach, a live one for any other operation
 abbrev pub FitsPid : State → ℕ → Op → Type 0
@@ -20,11 +20,6 @@ FitsPid s pid Fork = IsSome (at s.processes pid)
 FitsPid s pid Exec = IsSome (at s.processes pid)
 FitsPid s pid Exit = IsSome (at s.processes pid)
 FitsPid s pid (Sys call) = IsSome (at s.processes pid)
-
--- what was gathered fits the operation: no call that is built by now reads memory
-abbrev pub FitsIns : Op → Ins → Type 0
-FitsIns op (Given pieces) = pieces ≡ []
-FitsIns op (Fault error) = ⊥
 
 -- the state after a step, the same where there is none
 abbrev pub state_of_step : State → Step → State

@@ -1,6 +1,16 @@
 pub mod Table
 pub mod Outcome
+pub mod Name
 pub mod State
+pub mod Walk
+pub mod Step
+pub mod Descriptors
+pub mod Files
+pub mod Links
 pub mod Act
+pub mod Needs
 pub mod Journal
 pub mod Plain
+pub mod NameMap
+pub mod StateCode
+pub mod Laws

@@ -30,7 +30,7 @@ pub enum Ins {
     Fault(Errno),
 }
 
-/// Whether the kernel knows the call by now; a call outside the table is always known, as one that fails.
+/// Whether the server takes the call by now; a call outside the table is always known, as one that fails.
 pub fn is_built(call: &Call) -> bool
     ensures { result ≡ is_built call.now }
 {

@@ -1,121 +1,120 @@
-ghost use Rattle.std.specs.Prelude.{◌≡◌, ℕ, ◌<◌, ◌≤◌, ◌+◌, ◌^◌, List, length, IfOk, OnErr, IfSome, IsSome, Some, None, slice_set, replicate, IsTrue, ◌↔◌};
+ghost use Rattle.std.specs.Prelude.{◌≡◌, ℕ, ◌<◌, length, IfOk, IsSome, Some, None, IsTrue, ◌↔◌};
+ghost use Rattle.std.specs.List.{list_any};
 ghost use Rattle.kern_model.specs.Table.{at, lowest_unused};
-ghost use Rattle.kern_model.specs.State.{Process, fresh_process, opening, rows_of, with_process, with_row};
-ghost use Rattle.kern_model.specs.Act.{act, act_attach, act_close, act_exit, act_call, is_built, is_built_op};
-ghost use Rattle.kern_model.specs.Journal.{FitsPid, FitsIns};
-ghost use Rattle.kern_model.specs.Plain.{step_of};
+ghost use Rattle.kern_model.specs.State.{opening, rows_of, is_row_of, rows_in, is_held, is_of_node, stays, without_unused, let_go_of, let_go, with_row, closes, close_row, close_rows};
+ghost use Rattle.kern_model.specs.Outcome.{success, failure};
+ghost use Rattle.kern_model.specs.Plain.{file_of_row};
 
-use crate::operation::{Ins, Op};
+mod act;
+mod descriptor_calls;
+mod file_bytes;
+mod file_calls;
+mod link_calls;
+mod open;
+mod processes;
+mod rename;
+mod seek;
+mod stat_calls;
+mod walk;
+mod write_calls;
+
+use crate::descriptors::Descriptors;
+use crate::name_map::NameMap;
+use crate::node::{Node, NodeKind, Object, OpenFile, Row};
 use crate::outcome::Outcome;
-use sp_base::{Call, Errno, NoMemory, Pid};
+use crate::table;
+use sp_base::{Errno, Items, NoMemory, Octets, Pid};
 use std::alloc::Global;
 use std::marker::Model;
-
-/// What a descriptor names: an open file, by number, and whether an exec closes it.
-#[derive(Clone, Copy, Debug, PartialEq, Eq)]
-pub struct Row {
-    pub file: u64,
-    pub close_on_exec: bool,
-}
-
-/// The rows of one process, by descriptor.
-#[derive(Drop)]
-struct Descriptors {
-    rows: Vec<Option<Row>>,
-}
-
-impl Model for Descriptors {
-    ghost use Rattle.std.specs.Prelude.{◌≡◌, length};
-    ghost use Rattle.kern_model.specs.State.{Process};
-
-    ghost Value = { Process };
-
-    ghost view = { λ d. record { rows = d.rows.items } };
-
-    ghost invariant = { λ d. length d.rows.items ≡ 128 };
-}
 
 /// The slow kernel: it walks lists, and its contract is the definition. It is seen as the state that it holds.
 #[derive(Drop)]
 pub struct Plain {
     alloc: Global,
+    names: NameMap,
+    nodes: Vec<Option<Node>>,
     processes: Vec<Option<Descriptors>>,
+    files: Vec<Option<OpenFile>>,
 }
 
 impl Model for Plain {
     ghost use Rattle.std.specs.Prelude.{◌≡◌, length};
     ghost use Rattle.kern_model.specs.State.{State};
+    ghost use Rattle.kern_model.specs.StateCode.{state_code};
 
     ghost Value = { State };
 
-    ghost view = { λ p. record { processes = p.processes.items } };
+    ghost coded = { state_code };
+
+    ghost view = { λ p. record { names = p.names; nodes = p.nodes.items; processes = p.processes.items; files = p.files.items } };
 
     ghost invariant = { λ p. length p.processes.items ≡ 258 };
 }
 
-/// A table with nothing at any number below `len`.
-fn blank<T: Drop>(alloc: Global, len: usize) -> Result<Vec<Option<T>>, NoMemory>
-    ensures { IfOk result (λ table. table.items ≡ replicate len None) }
+/// Whether some row of some process is of an open file.
+fn is_held_in(processes: &[Option<Descriptors>], file: u64) -> bool
+    ensures { result ≡ list_any (λ process. list_any (is_row_of file) (rows_in process)) processes.now }
 {
-    let mut table = Vec::new(alloc);
-    for _ in 0..len {
-        table.push(None)?;
+    for process in processes {
+        if let Some(descriptors) = process {
+            if descriptors.holds(file) {
+                return true;
+            }
+        }
     }
-    Ok(table)
+    false
 }
 
-/// The lowest unused number of a process.
-fn lowest_number(processes: &[Option<Descriptors>]) -> Option<usize>
-    requires { length processes.now < 2 ^ 32 }
-    ensures which { result ≡ lowest_unused processes.now 2 }
-    ensures below { IfSome result (λ n. n < length processes.now) }
+/// Whether an open file is of a node.
+fn is_of_node(file: Option<OpenFile>, node: u64) -> bool
+    ensures { result ≡ is_of_node node file }
 {
-    for i in 2..processes.len() {
-        if processes[i].is_none() {
-            return Some(i);
-        }
+    match file {
+        Some(file) => match file.object {
+            Object::Node(number) => number == node,
+        },
+        None => false,
     }
-    None
 }
 
-impl Descriptors {
-    fn fresh(alloc: Global) -> Result<Descriptors, NoMemory>
-        ensures { IfOk result (λ d. d ≡ fresh_process) }
-    {
-        Ok(Descriptors {
-            rows: blank(alloc, 128)?,
-        })
-    }
-
-    /// The row of a descriptor.
-    fn row(&self, fd: u64) -> Option<Row>
-        ensures { result ≡ at self.now.rows fd }
-    {
-        if fd < 128 {
-            self.rows[fd as usize]
-        } else {
-            None
+/// Whether some open file is of a node.
+fn has_file_of(files: &[Option<OpenFile>], node: u64) -> bool
+    ensures { result ≡ list_any (is_of_node node) files.now }
+{
+    for file in files {
+        if is_of_node(*file, node) {
+            return true;
         }
     }
+    false
+}
 
-    /// Sets the row of a descriptor, or takes it away.
-    fn set_row(&mut self, fd: u64, row: Option<Row>)
-        ensures { self.new ≡ record self.old { rows = slice_set self.old.rows fd row } }
-    {
-        if fd < 128 {
-            self.rows[fd as usize] = row;
-        }
-    }
+/// The table of nodes that has the root directory alone. No node has the number 0.
+fn first_nodes(alloc: Global) -> Result<Vec<Option<Node>>, NoMemory>
+    ensures { IfOk result (λ nodes. nodes.items ≡ opening.nodes) }
+{
+    let mut nodes = Vec::new(alloc);
+    nodes.push(None)?;
+    nodes.push(Some(Node {
+        kind: NodeKind::Directory,
+        bytes: Octets::none(alloc),
+    }))?;
+    Ok(nodes)
 }
 
 impl Plain {
-    /// A kernel without processes.
+    /// A kernel with the root directory and without processes.
     pub fn fresh(alloc: Global) -> Result<Plain, NoMemory>
         ensures { IfOk result (λ plain. plain ≡ opening) }
     {
+        let mut names = NameMap::fresh(alloc);
+        names.insert(Items::none(alloc), 1)?;
         Ok(Plain {
             alloc,
-            processes: blank(alloc, 258)?,
+            names,
+            nodes: first_nodes(alloc)?,
+            processes: table::blank(alloc, 258)?,
+            files: Vec::new(alloc),
         })
     }
 
@@ -131,51 +130,49 @@ impl Plain {
     pub fn is_full(&self) -> bool
         ensures { IsTrue result ↔ (lowest_unused self.now.processes 2 ≡ None) }
     {
-        lowest_number(&self.processes).is_none()
+        table::lowest_unused(&self.processes, 2).is_none()
     }
 
-    fn attach(&mut self) -> Result<Outcome, NoMemory>
-        ensures ok { IfOk result (λ outcome. act_attach self.old ≡ Some (outcome, self.new)) }
-        ensures err { OnErr result (self.new ≡ self.old) }
+    /// A success with one value.
+    fn done(&self, value: u64) -> Outcome
+        ensures { result ≡ success value }
     {
-        let Some(n) = lowest_number(&self.processes) else {
-            return Ok(Outcome::failure(self.alloc, Errno::Eagain));
-        };
-        let fresh = Descriptors::fresh(self.alloc)?;
-        self.processes[n] = Some(fresh);
-        Ok(Outcome::success(self.alloc, n as u64))
+        Outcome::success(self.alloc, value)
     }
 
-    fn exit(&mut self, pid: Pid) -> Outcome
-        requires { IsSome (at self.old.processes pid.0) }
-        ensures { act_exit self.old pid.0 ≡ Some (result, self.new) }
+    /// An error.
+    fn failed(&self, error: Errno) -> Outcome
+        ensures { result ≡ failure error }
     {
-        let n = pid.0 as usize;
-        if n < self.processes.len() {
-            self.processes[n] = None;
-        }
-        Outcome::success(self.alloc, 0)
+        Outcome::failure(self.alloc, error)
     }
 
     /// The row of a descriptor of a process.
     fn row(&self, pid: Pid, fd: u64) -> Option<Row>
+        requires { IsSome (at self.now.processes pid.0) }
         ensures { result ≡ at (rows_of self.now pid.0) fd }
     {
-        let n = pid.0 as usize;
-        if n < self.processes.len() {
-            match &self.processes[n] {
-                Some(descriptors) => descriptors.row(fd),
-                None => None,
-            }
-        } else {
-            None
+        match &self.processes[pid.0 as usize] {
+            Some(descriptors) => descriptors.row(fd),
+            None => None,
         }
+    }
+
+    /// The open file of a descriptor of a process, with its number.
+    fn file_of(&self, pid: Pid, fd: u64) -> Option<(u64, OpenFile)>
+        requires { IsSome (at self.now.processes pid.0) }
+        ensures { result ≡ file_of_row self.now (at (rows_of self.now pid.0) fd) }
+    {
+        let row = self.row(pid, fd)?;
+        let file = table::at(&self.files, row.file)?;
+        Some((row.file, file))
     }
 
     /// Sets the row of a descriptor of a process, or takes it away.
     fn set_row(&mut self, pid: Pid, fd: u64, row: Option<Row>)
         requires { IsSome (at self.old.processes pid.0) }
-        ensures { self.new ≡ with_row self.old pid.0 fd row }
+        ensures after { self.new ≡ with_row self.old pid.0 fd row }
+        ensures live { IsSome (at self.new.processes pid.0) }
     {
         let n = pid.0 as usize;
         if n < self.processes.len() {
@@ -185,120 +182,74 @@ impl Plain {
         }
     }
 
-    fn close(&mut self, pid: Pid, fd: u64) -> Outcome
+    /// Lets a node go that neither a name nor an open file keeps.
+    fn drop_unused(&mut self, node: u64)
+        ensures after { self.new ≡ without_unused self.old node }
+        ensures processes { self.new.processes ≡ self.old.processes }
+    {
+        if self.names.name_count(node) == 0 && !has_file_of(&self.files, node) {
+            table::set(&mut self.nodes, node, None);
+        }
+    }
+
+    /// Lets go of what an open file was of.
+    fn let_go_of(&mut self, object: Object)
+        ensures after { self.new ≡ let_go_of self.old object }
+        ensures processes { self.new.processes ≡ self.old.processes }
+    {
+        match object {
+            Object::Node(node) => self.drop_unused(node),
+        }
+    }
+
+    /// Lets an open file go that no row is of.
+    fn let_go(&mut self, file: u64)
+        ensures after { self.new ≡ let_go self.old file }
+        ensures processes { self.new.processes ≡ self.old.processes }
+    {
+        if is_held_in(&self.processes, file) {
+            return;
+        }
+        let gone = table::at(&self.files, file);
+        table::set(&mut self.files, file, None);
+        if let Some(gone) = gone {
+            self.let_go_of(gone.object);
+        }
+    }
+
+    /// Takes the row of a descriptor away, and what only that row kept.
+    fn close_row(&mut self, pid: Pid, fd: u64)
         requires { IsSome (at self.old.processes pid.0) }
-        ensures { act_close self.old pid.0 fd ≡ Some (result, self.new) }
+        ensures after { self.new ≡ close_row self.old pid.0 fd }
+        ensures live { IsSome (at self.new.processes pid.0) }
+    {
+        if let Some(row) = self.row(pid, fd) {
+            self.set_row(pid, fd, None);
+            self.let_go(row.file);
+        }
+    }
+
+    /// Whether an exec closes the row of a descriptor.
+    fn is_marked(&self, pid: Pid, fd: u64) -> bool
+        requires { IsSome (at self.now.processes pid.0) }
+        ensures { result ≡ closes (at (rows_of self.now pid.0) fd) }
     {
         match self.row(pid, fd) {
-            Some(_) => {
-                self.set_row(pid, fd, None);
-                Outcome::success(self.alloc, 0)
-            }
-            None => Outcome::failure(self.alloc, Errno::Ebadf),
-        }
-    }
-
-    fn call(&mut self, pid: Pid, call: &Call) -> Outcome
-        requires live { IsSome (at self.old.processes pid.0) }
-        requires built { IsTrue (is_built call.now) }
-        ensures { act_call self.old pid.0 call.now ≡ Some (result, self.new) }
-    {
-        match call {
-            Call::Getpid => Outcome::success(self.alloc, u64::from(pid.0)),
-            Call::Close { fd } => self.close(pid, *fd),
-            Call::Unknown { .. } => Outcome::failure(self.alloc, Errno::Enosys),
-            _ => unreachable!(),
-        }
-    }
-
-    /// Performs an operation: the outcome that the definition gives in this state, and the state after it.
-    /// None, exactly where the operation waits, and want of memory leave the state as it was.
-    pub fn act(&mut self, pid: Pid, op: &Op, ins: &Ins) -> Result<Option<Outcome>, NoMemory>
-        requires process { FitsPid self.old pid.0 op.now }
-        requires ins { FitsIns op.now ins.now }
-        requires built { IsTrue (is_built_op op.now) }
-        ensures ok { IfOk result (λ answer. act self.old pid.0 op.now ins.now ≡ step_of answer self.new) }
-        ensures waits { result ≡ Ok None → self.new ≡ self.old }
-        ensures err { OnErr result (self.new ≡ self.old) }
-    {
-        if let Ins::Fault(error) = ins {
-            return Ok(Some(Outcome::failure(self.alloc, *error)));
-        }
-        match op {
-            Op::Sys(call) => Ok(Some(self.call(pid, call))),
-            Op::Attach => Ok(Some(self.attach()?)),
-            Op::Exit => Ok(Some(self.exit(pid))),
-            Op::Fork | Op::Exec => unreachable!(),
+            Some(row) => row.close_on_exec,
+            None => false,
         }
     }
 }
 
-#[cfg(test)]
-mod tests {
-    use super::*;
-    use sp_base::{Items, Words};
-    use std::process::Abort;
-
-    /// The error number and the first value that the kernel gives, where it does not wait.
-    fn asked(kernel: &mut Plain, alloc: Global, pid: u32, op: Op) -> (u32, u64)
-        requires process { FitsPid kernel.old pid op }
-        requires built { IsTrue (is_built_op op) }
-    {
-        let ins = Ins::Given(Items::none(alloc));
-        match kernel.act(Pid(pid), &op, &ins) {
-            Ok(Some(outcome)) => (outcome.err, outcome.ret0),
-            _ => (u32::MAX, u64::MAX),
+/// Takes away all rows of a process below a descriptor, or those that are marked alone.
+fn close_rows(kernel: &mut Plain, only_marked: bool, pid: Pid, end: u64)
+    requires { IsSome (at kernel.old.processes pid.0) }
+    ensures after { kernel.new ≡ close_rows only_marked kernel.old pid.0 end }
+    ensures live { IsSome (at kernel.new.processes pid.0) }
+{
+    for fd in 0..end {
+        if !only_marked || kernel.is_marked(pid, fd) {
+            kernel.close_row(pid, fd);
         }
-    }
-
-    fn live(kernel: &Plain, rt: &impl Abort, pid: u32)
-        ensures { IsSome (at kernel.now.processes pid) }
-    {
-        assert!(rt; kernel.is_live(Pid(pid)), "process {pid} is live");
-    }
-
-    #[test]
-    fn first_calls(rt: HostRuntime) {
-        let Ok(mut kernel) = Plain::fresh(rt.alloc()) else {
-            panic!(rt; "ample memory");
-        };
-        assert_eq!(rt; asked(&mut kernel, rt.alloc(), 0, Op::Attach), (0, 2));
-        live(&kernel, &rt, 2);
-        assert_eq!(rt;
-            asked(&mut kernel, rt.alloc(), 2, Op::Sys(Call::Getpid)),
-            (0, 2)
-        );
-        live(&kernel, &rt, 2);
-        for fd in [0, 3, 127, 128, u64::MAX] {
-            live(&kernel, &rt, 2);
-            let given = asked(&mut kernel, rt.alloc(), 2, Op::Sys(Call::Close { fd }));
-            assert_eq!(rt; given, (9, 0), "close {fd}");
-        }
-        live(&kernel, &rt, 2);
-        let unknown = Call::Unknown {
-            num: 99,
-            words: Words::none(),
-        };
-        assert_eq!(rt;
-            asked(&mut kernel, rt.alloc(), 2, Op::Sys(unknown)),
-            (78, 0)
-        );
-    }
-
-    #[test]
-    fn numbers_are_given_again(rt: HostRuntime) {
-        let Ok(mut kernel) = Plain::fresh(rt.alloc()) else {
-            panic!(rt; "ample memory");
-        };
-        for want in 2..258 {
-            assert!(rt; !kernel.is_full());
-            assert_eq!(rt; asked(&mut kernel, rt.alloc(), 0, Op::Attach), (0, want));
-        }
-        assert!(rt; kernel.is_full());
-        assert_eq!(rt; asked(&mut kernel, rt.alloc(), 0, Op::Attach), (35, 0));
-        live(&kernel, &rt, 100);
-        assert_eq!(rt; asked(&mut kernel, rt.alloc(), 100, Op::Exit), (0, 0));
-        assert!(rt; !kernel.is_live(Pid(100)));
-        assert_eq!(rt; asked(&mut kernel, rt.alloc(), 0, Op::Attach), (0, 100));
     }
 }

@@ -9,15 +9,16 @@ use Rattle.sp_base.specs.declared.errno.Errno.TheVariants.{Ebadf, Enosys}
 use Rattle.sp_base.specs.declared.names.Pid.{Pid}
 use Rattle.sp_frames.specs.declared.frame.Body.TheVariants as body
 use Rattle.sp_frames.specs.declared.frame.Frame.{Frame}
-use Rattle.kern_model.specs.Act.{Step, act, is_built, or_fail, answered}
+use Rattle.kern_model.specs.Act.{act, is_built}
 use Rattle.kern_model.specs.Journal.{entry_of_step, state_after}
 use Rattle.kern_model.specs.Outcome.{success, failure}
-use Rattle.kern_model.specs.State.{State, rows_of, with_row}
+use Rattle.kern_model.specs.State.{State, rows_of, close_row}
+use Rattle.kern_model.specs.Step.{Step, or_fail, answered}
 use Rattle.kern_model.specs.Table.{at}
 use Rattle.kern_model.specs.declared.journal.Entry.{Entry}
 use Rattle.kern_model.specs.declared.operation.Op.TheVariants.{Sys}
 use Rattle.kern_model.specs.declared.outcome.Outcome.{Outcome}
-use Rattle.kern_model.specs.declared.plain.Row.{Row}
+use Rattle.kern_model.specs.declared.node.Row.{Row}
 use Rattle.sp_hub.specs.Connection.{fresh_connection}
 use Rattle.sp_hub.specs.Machine.{Machine, Played, running, fresh_machine, played, after_step}
 use Rattle.sp_hub.specs.Step.{nothing_read, hello, response, frame_step_by, work_at, perform_step}
@@ -115,9 +116,9 @@ pub acts : (s : State) (pid : ℕ) (call : Call) → IsTrue (is_built call) → 
 acts s pid Getpid built = (success pid, s, refl)
 acts s pid (Close fd) built = closes (at (rows_of s pid) fd)
   where
-    closes : (row : Option Row) → (outcome : Outcome) × (s' : State) × (or_fail row Ebadf s (λ row. answered 0 (with_row s pid fd None)) ≡ Some (outcome, s'))
+    closes : (row : Option Row) → (outcome : Outcome) × (s' : State) × (or_fail row Ebadf s (λ row. answered 0 (close_row s pid fd)) ≡ Some (outcome, s'))
     closes None = (failure Ebadf, s, refl)
-    closes (Some row) = (success 0, with_row s pid fd None, refl)
+    closes (Some row) = (success 0, close_row s pid fd, refl)
 acts s pid (Unknown num words) built = (failure Enosys, s, refl)
 acts s pid _ built = absurd cc
 

@@ -9,7 +9,8 @@ use Rattle.kern_model.specs.declared.operation.Op.{Op}
 use Rattle.kern_model.specs.declared.outcome.Outcome.{Outcome}
 use Rattle.kern_model.specs.State.{State}
 use Rattle.kern_model.specs.Act.{act}
-use Rattle.kern_model.specs.Journal.{FitsPid, FitsIns, IsLegal, state_after}
+use Rattle.kern_model.specs.Journal.{FitsPid, IsLegal, state_after}
+use Rattle.kern_model.specs.Needs.{FitsIns}
 use Rattle.sp_hub.specs.declared.kernel.Acted.{Acted}
 use Rattle.sp_hub.specs.declared.kernel.Acted.TheVariants.{Done, NotReady, NoMemory}
 use Rattle.sp_hub.specs.Kernel.{answer_at}

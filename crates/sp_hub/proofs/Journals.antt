@@ -8,7 +8,8 @@ use Rattle.kern_model.specs.declared.operation.Op.{Op}
 use Rattle.kern_model.specs.declared.outcome.Outcome.{Outcome}
 use Rattle.kern_model.specs.State.{State, opening}
 use Rattle.kern_model.specs.Act.{act}
-use Rattle.kern_model.specs.Journal.{FitsPid, FitsIns, Follows, IsLegal, IsLegalFrom, after_entry, state_after, state_from, state_of_step}
+use Rattle.kern_model.specs.Journal.{FitsPid, Follows, IsLegal, IsLegalFrom, after_entry, state_after, state_from, state_of_step}
+use Rattle.kern_model.specs.Needs.{FitsIns}
 
 pub state_from-push : (s : State) (entries : List Entry) (e : Entry) → state_from s (entries ++ e ∷ []) ≡ after_entry (state_from s entries) e
 state_from-push s [] e = refl

@@ -12,7 +12,9 @@ use Rattle.kern_model.specs.declared.journal.Entry.{Entry}
 use Rattle.kern_model.specs.declared.journal.Who.{Who}
 use Rattle.kern_model.specs.declared.journal.Who.TheVariants.{Request}
 use Rattle.kern_model.specs.declared.operation.Op.TheVariants as op
-use Rattle.kern_model.specs.Act.{Step, act_call, act_attach}
+use Rattle.kern_model.specs.Act.{act_call}
+use Rattle.kern_model.specs.Descriptors.{act_attach}
+use Rattle.kern_model.specs.Step.{Step}
 use Rattle.kern_model.specs.Journal.{state_after, entry_of_step, next_entry}
 use Rattle.sp_hub.specs.declared.connection.Condition.{Condition}
 use Rattle.sp_hub.specs.declared.connection.Condition.TheVariants.{Closed}
@@ -76,7 +78,7 @@ perform_fair journal x place t (Some e) ne = tt
 
 call_fair : (journal : List Entry) (x : Connection) (place : ℕ) (found : Option OpenCall) (process : Option Pid) → ((t : OpenCall) → found ≡ Some t → IsTrue (is_taken t.call)) → IsFair (work_call journal x place found process).reply
 call_fair journal x place (Some t) (Some pid) built = perform_fair journal x place t (next_entry journal pid (Request x.no t.number) (op.Sys t.call) nothing_read)
-    (none_of pid (Request x.no t.number) (op.Sys t.call) nothing_read (act_call (state_after journal) pid.0 t.call) (call_acts (state_after journal) pid.0 t.call (built t refl)))
+    (none_of pid (Request x.no t.number) (op.Sys t.call) nothing_read (act_call (state_after journal) pid.0 t.call []) (call_acts (state_after journal) pid.0 t.call (built t refl)))
 call_fair journal x place (Some t) None built = tt
 call_fair journal x place None process built = tt
 

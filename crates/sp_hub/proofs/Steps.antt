@@ -17,7 +17,9 @@ use Rattle.kern_model.specs.declared.operation.Op.{Op}
 use Rattle.kern_model.specs.declared.operation.Op.TheVariants as op
 use Rattle.kern_model.specs.Table.{at}
 use Rattle.kern_model.specs.State.{State, fresh_process, with_process}
-use Rattle.kern_model.specs.Journal.{FitsPid, FitsIns, Follows, state_after, next_entry}
+use Rattle.kern_model.proofs.TableLaws.{lowest_unused_is}
+use Rattle.kern_model.specs.Journal.{FitsPid, Follows, state_after, next_entry}
+use Rattle.kern_model.specs.Needs.{FitsIns}
 use Rattle.sp_hub.specs.declared.connection.Condition.{Condition}
 use Rattle.sp_hub.specs.declared.connection.Condition.TheVariants.{Fresh, Live, InExec, Left, Draining, Closed}
 use Rattle.sp_hub.specs.declared.connection.Connection.{Connection}
@@ -35,7 +37,7 @@ use Rattle.sp_hub.specs.Sound.{IsReached, IsConnection, NotOpen, Spends}
 use Rattle.sp_hub.proofs.Calls.{not_open_none, not_open_push, not_open_remove, own_none, own_push, own_remove, open_at, gone_at, reached_remove, reached_fresh}
 use Rattle.sp_hub.proofs.Lists.{all_at, all_remove, all_push, all_map, all_none}
 use Rattle.sp_hub.proofs.Journals.{follows_by}
-use Rattle.sp_hub.proofs.KernelLaws.{Nexts, nexts, attach_does, call_live, exit_live, lowest_unused_is, live_put, put_live}
+use Rattle.sp_hub.proofs.KernelLaws.{Nexts, nexts, attach_does, call_live, exit_live, live_put, put_live, taken_fits}
 use Rattle.sp_hub.proofs.Sound.{IsProcess, IsAbout, Adds, Keeps}
 use Rattle.sp_hub.proofs.Verdicts.{Attaches, attaches, Opens, opens, refuses}
 
@@ -99,7 +101,7 @@ attach_keeps journal x f e is a next fit =
       no = refl;
       connection = record { reached = tt; taken = all_none (λ t. IsTrue (is_taken t.call)) x.calls none; bounded = all_none (λ t. t.number.0 ≤ f.number.0) x.calls none; own = own_none x.calls none; fit = fit };
       spends = λ who h. fresh_spends x x' who a.fresh refl (omega arith) (λ n. not_open_none x.calls n none) h;
-      grows = inr (adds journal x x' no_process (Request x.no f.number) op.Attach nothing_read e refl refl n (refl, omega arith, not_open_none x.calls f.number.0 none) (λ (s : Spends x (Request x.no f.number)). let le = s.1 in omega arith) refl);
+      grows = inr (adds journal x x' no_process (Request x.no f.number) op.Attach nothing_read e refl tt n (refl, omega arith, not_open_none x.calls f.number.0 none) (λ (s : Spends x (Request x.no f.number)). let le = s.1 in omega arith) refl);
       others = λ q h not. rw after (live_put s.processes a.pid fresh_process q.0 h);
       mine = λ p h. (let same : a.pid ≡ p.0 = sym pid ∙ live_number e.outcome.ret0 p h in rw after (subst (λ q. IsSome (at (with_process s a.pid (Some fresh_process)).processes q)) same (put_live s.processes a.pid fresh_process unused.0)));
       fresh = λ p h. inr (let same : a.pid ≡ p.0 = sym pid ∙ live_number e.outcome.ret0 p h in subst (λ q. at s.processes q ≡ None) same unused.1);
@@ -194,7 +196,7 @@ exit_keeps journal x s queue pid nothing fit live here (Some e) next =
       no = refl;
       connection = gone_is x s queue nothing fit;
       spends = λ who h. gone_spends x s queue who nothing h;
-      grows = inr (adds journal x (gone x s queue) pid (End x.no) op.Exit nothing_read e here refl n (refl, nothing) (λ (h : Spends x (End x.no)). not_live x.condition pid h.1 live) refl);
+      grows = inr (adds journal x (gone x s queue) pid (End x.no) op.Exit nothing_read e here tt n (refl, nothing) (λ (h : Spends x (End x.no)). not_live x.condition pid h.1 live) refl);
       others = λ q h not. rw n.state (exit_live (state_after journal) pid.0 e.outcome n.next q.0 n.acts (λ (same : q.0 ≡ pid.0). not (live ∙ ap (λ m. Live (record { 0 = m })) (sym same))) h);
       mine = λ p h. absurd (not_live s p nothing h);
       fresh = λ p h. absurd (not_live s p nothing h);
@@ -287,7 +289,7 @@ perform_keeps journal x place t pid queue e is owner there process next fit =
         fit = fit;
       };
       spends = λ who h. work_spends x place queue who h;
-      grows = inr (adds journal x x' pid (Request x.no t.number) (op.Sys t.call) nothing_read e (owner pid live) refl n
+      grows = inr (adds journal x x' pid (Request x.no t.number) (op.Sys t.call) nothing_read e (owner pid live) (taken_fits t.call (all_at (λ t. IsTrue (is_taken t.call)) x.calls place t is.taken there)) n
           (refl, all_at (λ t. t.number.0 ≤ x.last.0) x.calls place t is.bounded there, gone_at x.calls place t is.own there)
           (λ (h : Spends x (Request x.no t.number)). open_at x.calls place t there h.2) refl);
       others = λ q h not. still q h;

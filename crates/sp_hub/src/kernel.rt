@@ -1,8 +1,9 @@
 ghost use Rattle.std.specs.Prelude.{◌≡◌, List, [], ◌∷◌, ◌++◌, length, IfOk, IsTrue, ◌↔◌, Some, None};
 ghost use Rattle.kern_model.specs.declared.outcome.Outcome.{Outcome};
 ghost use Rattle.kern_model.specs.Table.{lowest_unused};
-ghost use Rattle.kern_model.specs.Act.{act, is_built_op};
-ghost use Rattle.kern_model.specs.Journal.{FitsPid, FitsIns, IsLegal, state_after, next_entry};
+ghost use Rattle.kern_model.specs.Act.{act};
+ghost use Rattle.kern_model.specs.Journal.{FitsPid, IsLegal, state_after, next_entry};
+ghost use Rattle.kern_model.specs.Needs.{FitsIns};
 ghost use Rattle.sp_base.specs.declared.names.Answer.{Answer};
 ghost use Rattle.sp_hub.specs.Kernel.{Performs, answer_at};
 
@@ -55,7 +56,6 @@ fn perform(
 ) -> Acted
     requires process { FitsPid plain.old pid.0 op }
     requires ins { FitsIns op ins }
-    requires built { IsTrue (is_built_op op) }
     ensures done { (answer : Answer) → result ≡ Acted.Done answer → (outcome : Outcome)
         × (act plain.old pid.0 op ins ≡ Some (outcome, plain.new))
         × (answer ≡ answer_at outcome (length journal.old))
@@ -131,7 +131,6 @@ impl Kernel {
     pub fn act(&mut self, pid: Pid, who: Who, op: Op, ins: Ins) -> Acted
         requires process { FitsPid (state_after self.old) pid.0 op }
         requires ins { FitsIns op ins }
-        requires built { IsTrue (is_built_op op) }
         ensures done { (answer : Answer) → result ≡ Acted.Done answer → Performs self.old (next_entry self.old pid who op ins) answer self.new }
         ensures waits { result ≡ Acted.NotReady → (next_entry self.old pid who op ins ≡ None) × (self.new ≡ self.old) }
         ensures no_memory { result ≡ Acted.NoMemory → self.new ≡ self.old }

@@ -1,0 +1,8 @@
+use Rattle.std.proofs.Common.{◌≡◌}
+use Rattle.std.specs.Prelude.{IsSome}
+use Rattle.kern_model.specs.Table.{at}
+use Rattle.kern_model.specs.State.{close_rows}
+use Rattle.kern_model.proofs.plain.close_rows.Given as goal
+
+abbrev pub invariant-loop-fd : goal.invariant-loop-fd
+invariant-loop-fd l = (l.kernel ≡ close_rows l.only_marked l.fn.kernel l.pid.0 l.fd) × IsSome (at l.kernel.processes l.pid.0)
