@@ -4,3 +4,4 @@ pub mod NameLaws
 pub mod CallLaws
 pub mod RunLaws
 pub mod TopLaws
+pub mod StdioLaws

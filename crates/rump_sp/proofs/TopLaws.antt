@@ -13,7 +13,7 @@ use Rattle.guest_script.specs.declared.script.Script.{Script}
 use Rattle.guest_script.specs.declared.script.Section.{Section}
 use Rattle.rump_sp.specs.Run.{ShowsRun}
 use Rattle.rump_sp.specs.declared.failure.Failure.{Failure}
-use Rattle.rump_sp.specs.declared.failure.Failure.TheVariants.{Usage, TooLong, Line, Input, Output, NoMemory}
+use Rattle.rump_sp.specs.declared.failure.Failure.TheVariants.{Usage, TooLong, Line, Input, Output, BadFrame, Inside, TooMuch, Salt, NoMemory}
 use Rattle.rump_sp.specs.Top.{statuses, status_of, failure_by, failure_of, Shows, Prints, PrintsFront, HasFault, IsFaulty, IsScriptFailure}
 
 -- ---- a script and what it shows
@@ -60,7 +60,7 @@ pub prints_front : (left held held' : Option (List ℕ)) (text rows : List ℕ) 
 prints_front None held held' text rows all shows front = tt
 prints_front (Some t) held held' text rows all shows front = let shows' = rw all at shows in (take front.0 rows, inr (rows, front.0, shows', refl), front.1)
 
-appends_nothing : (held : Option (List ℕ)) → Appends held held []
+pub appends_nothing : (held : Option (List ℕ)) → Appends held held []
 appends_nothing None = tt
 appends_nothing (Some xs) = sym (append-nil xs)
 
@@ -73,11 +73,15 @@ pub keeps_same : (held : Option (List ℕ)) → Keeps held held
 keeps_same None = tt
 keeps_same (Some xs) = refl
 
--- the status of a failure is one of the five
+-- the status of a failure is one of the six
 pub status_in : (failure : Failure) (n : ℕ) → n ≡ status_of failure → Contains statuses n
 status_in Usage n e = (1, omega arith, sym e)
 status_in TooLong n e = (2, omega arith, sym e)
 status_in (Line line) n e = (2, omega arith, sym e)
-status_in Input n e = (3, omega arith, sym e)
-status_in Output n e = (3, omega arith, sym e)
-status_in NoMemory n e = (4, omega arith, sym e)
+status_in (BadFrame offset) n e = (2, omega arith, sym e)
+status_in (Inside offset) n e = (2, omega arith, sym e)
+status_in TooMuch n e = (2, omega arith, sym e)
+status_in Salt n e = (3, omega arith, sym e)
+status_in Input n e = (4, omega arith, sym e)
+status_in Output n e = (4, omega arith, sym e)
+status_in NoMemory n e = (5, omega arith, sym e)

@@ -1,5 +1,5 @@
 -- What the program does.
-use Rattle.std.specs.Prelude.{◌≡◌, ◌≢◌, ◌⊎◌, ⊤, ℕ, Option, Some, None, List, [], ◌∷◌, Ok, Err, codes, take}
+use Rattle.std.specs.Prelude.{◌≡◌, ◌≢◌, ◌⊎◌, ⊤, ℕ, Option, Some, None, List, [], ◌∷◌, Ok, Err, take}
 use Rattle.std.specs.Io.KnownBytes.{Appends}
 use Rattle.guest_script.specs.declared.fault.ScriptFault.{ScriptFault}
 use Rattle.guest_script.specs.declared.fault.ScriptKind.{ScriptKind}
@@ -8,7 +8,7 @@ use Rattle.guest_script.specs.declared.script.Script.{Script}
 use Rattle.guest_script.specs.declared.script.Section.{Section}
 use Rattle.guest_script.specs.Script.{script_of}
 use Rattle.rump_sp.specs.declared.failure.Failure.{Failure}
-use Rattle.rump_sp.specs.declared.failure.Failure.TheVariants.{Usage, TooLong, Line, Input, Output, NoMemory}
+use Rattle.rump_sp.specs.declared.failure.Failure.TheVariants.{Usage, TooLong, Line, Input, Output, BadFrame, Inside, TooMuch, Salt, NoMemory}
 use Rattle.rump_sp.specs.Run.{ShowsRun}
 
 -- the failure that a script's fault of a kind is
@@ -21,13 +21,9 @@ failure_by kind.NoMemory line = NoMemory
 abbrev pub failure_of : ScriptFault → Failure
 failure_of fault = failure_by fault.kind fault.line
 
--- the words that are right: bench -r
-abbrev pub bench_words : List (List ℕ)
-bench_words = codes "bench" ∷ codes "-r" ∷ []
-
 -- the exit statuses of the program
 abbrev pub statuses : List ℕ
-statuses = 0 ∷ 64 ∷ 65 ∷ 74 ∷ 75 ∷ []
+statuses = 0 ∷ 64 ∷ 65 ∷ 71 ∷ 74 ∷ 75 ∷ []
 
 -- the exit status of a failure
 abbrev pub status_of : Failure → ℕ
@@ -36,6 +32,10 @@ status_of TooLong = 65
 status_of (Line line) = 65
 status_of Input = 74
 status_of Output = 74
+status_of (BadFrame offset) = 65
+status_of (Inside offset) = 65
+status_of TooMuch = 65
+status_of Salt = 71
 status_of NoMemory = 75
 
 -- what a script's sections show: nothing without a section, and the rows of a run of the one that there is

@@ -4,36 +4,45 @@
 mod bench;
 mod failure;
 mod run;
+mod script;
+mod stdio;
 #[cfg(test)]
 mod tests;
 mod top;
 mod wire;
+mod words;
 
-use crate::failure::Failure;
-use sp_base::{Items, NoMemory, Octets};
-use sp_io::{ReadSource, WriteSink};
+use crate::failure::{Failure, fail};
+use sp_base::NoMemory;
+use sp_io::{RandomSalt, ReadSource, WriteSink};
 use std::env;
+use std::io::ErrorKind;
 use std::process::ExitCode;
 
 /// The words of the command line behind the program's name; none where they are no text.
-fn words_of(rt: &HostRuntime) -> Result<Items<Octets>, NoMemory> {
-    let mut words = Items::none(rt.alloc());
-    let Ok(args) = env::args(rt) else {
-        return Ok(words);
-    };
-    for word in args.skip(1) {
-        words.push(Octets::of(rt.alloc(), word.as_bytes())?)?;
+fn words_of(rt: &HostRuntime) -> Result<Vec<String>, NoMemory> {
+    match env::args(rt) {
+        Ok(args) => Ok(args.skip(1).collect(rt.alloc())?),
+        Err(error) if error.kind() == ErrorKind::OutOfMemory => Err(NoMemory),
+        Err(_) => Ok(Vec::new(rt.alloc())),
     }
-    Ok(words)
 }
 
 fn main(rt: HostRuntime) -> ExitCode {
+    let mut salt = RandomSalt::over(&rt);
     let mut input = ReadSource::over(rt.stdin());
     let mut out = WriteSink::over(rt.stdout());
     let mut err = WriteSink::over(rt.stderr());
     let Ok(words) = words_of(&rt) else {
-        return ExitCode::from(top::fail(&mut err, Failure::NoMemory));
+        return ExitCode::from(fail(&mut err, Failure::NoMemory));
     };
-    let status = top::rump_main(rt.alloc(), words.slice(), &mut input, &mut out, &mut err);
+    let status = top::rump_main(
+        rt.alloc(),
+        words.as_slice(),
+        &mut salt,
+        &mut input,
+        &mut out,
+        &mut err,
+    );
     ExitCode::from(status)
 }

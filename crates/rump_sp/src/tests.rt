@@ -1,9 +1,13 @@
 // The words, statuses and messages of the program, and what it prints, by its rules.
+ghost use Rattle.std.specs.Prelude.{◌≡◌, false};
+
 use crate::top::rump_main;
-use sp_base::{Items, NoMemory, Octets};
-use sp_io::{MemSink, MemSource};
+use sp_base::{NoMemory, Octets};
+use sp_io::{MemSalt, MemSink, MemSource, Source};
 use std::alloc::Global;
 use std::test::Fail;
+
+mod connection;
 
 /// Which calls of the input, the output and the messages fail, by their numbers from 0.
 #[derive(Clone, Copy)]
@@ -21,44 +25,67 @@ const NO_FAILS: Fails = Fails {
 
 /// The status, and what the program wrote to its output and to its messages.
 #[derive(Drop)]
-struct Told {
+struct Outcome {
     status: u8,
     out: Octets,
     err: Octets,
 }
 
-fn outcome_of(
+/// What the program does with a source; the calls of its sinks fail as said.
+fn outcome_over<I: Source>(
     alloc: Global,
     words: &[&str],
-    script: &[u8],
+    input: &mut I,
     fails: Fails,
-) -> Result<Told, NoMemory> {
-    let mut list = Items::none(alloc);
-    for word in words {
-        list.push(Octets::of(alloc, word.as_bytes())?)?;
-    }
-    let mut input = MemSource::of(alloc, script, fails.input)?;
+) -> Result<Outcome, NoMemory>
+    requires { I.is_done input.old ≡ false }
+{
+    let mut salt = MemSalt::of(alloc, 0, &[])?;
     let mut out = MemSink::of(alloc, fails.out)?;
     let mut err = MemSink::of(alloc, fails.err)?;
-    let status = rump_main(alloc, list.slice(), &mut input, &mut out, &mut err);
-    Ok(Told {
+    let status = rump_main(alloc, words, &mut salt, input, &mut out, &mut err);
+    Ok(Outcome {
         status,
         out: Octets::of(alloc, out.bytes())?,
         err: Octets::of(alloc, err.bytes())?,
     })
 }
 
+fn outcome_of(
+    alloc: Global,
+    words: &[&str],
+    input: &[u8],
+    fails: Fails,
+) -> Result<Outcome, NoMemory> {
+    let mut source = MemSource::of(alloc, input, fails.input)?;
+    outcome_over(alloc, words, &mut source, fails)
+}
+
+/// The right words are those that clap takes: a flag once, in a bundle of its own, and behind `--` no word at all.
 #[test]
 fn words(rt: HostRuntime) -> Result<(), Fail> {
-    let rows: [(&[&str], u8); 8] = [
+    let rows: [(&[&str], u8); 21] = [
         (&["bench", "-r"], 0),
+        (&["bench", "-r", "--"], 0),
         (&[], 64),
         (&["bench"], 64),
         (&["-r", "bench"], 64),
         (&["bench", "-r", "-r"], 64),
+        (&["bench", "-rr"], 64),
+        (&["bench", "-r", "x"], 64),
         (&["bench", "-r", ""], 64),
+        (&["bench", "-r", "--", "x"], 64),
         (&["bench", "-R"], 64),
+        (&["bench", "--raw"], 64),
+        (&["bench", "--help"], 64),
+        (&["bench", "-h"], 64),
+        (&["bench", "-V"], 64),
+        (&["bench", "--version"], 64),
+        (&["stdio", "x"], 64),
+        (&["stdio", "-r"], 64),
         (&["local", "-r"], 64),
+        (&["frob"], 64),
+        (&["Stdio"], 64),
     ];
     let usage = "rump_sp: usage: rump_sp stdio|local|bench|server|guest|load [options]\n";
     for (words, want) in rows {

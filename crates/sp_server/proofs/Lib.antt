@@ -1,0 +1,5 @@
+pub mod Shrinking
+pub mod Rounds
+pub mod SessionLaws
+pub mod RunLaws
+pub mod EndLaws

@@ -1,0 +1,10 @@
+//! Serving: frames come in as bytes, happen to a server, and what it answers goes out as bytes.
+#![tactic(auto)]
+
+mod laws;
+mod serving;
+mod session;
+mod stdio;
+
+pub use laws::one_end;
+pub use stdio::{StdioEnd, serve_stdio};

@@ -1,0 +1,254 @@
+//! A server and its one connection, over which bytes come in pieces.
+ghost use Rattle.std.specs.Prelude.{◌≡◌, ◌≢◌, ◌≤◌, ◌+◌, ◌++◌, ℕ, [], List, false, length, IfOk, OnOk, OnErr, IfSome, IfNone, None, Some};
+ghost use Rattle.std.specs.List.{flat_map};
+ghost use Rattle.std.specs.Io.KnownBytes.{Appends};
+ghost use Rattle.sp_frames.specs.declared.frame.Frame.{Frame};
+ghost use Rattle.sp_frames.specs.Grammar.{spelling};
+ghost use Rattle.sp_server.specs.Serving.{HandsOut};
+ghost use Rattle.sp_server.specs.Stdio.{connection, banner, most_input, AnswersFrame, IsAnswered, EndsAs, IsStdioOut, is_read};
+ghost use Rattle.sp_server.specs.Session.{HasStopCause, HasEndCause, IsBehind, IsAt, IsMet, IsQueueFront, IsAnswerFront, IsCutBehind, IsServedBehind, IsBrokenOff};
+
+use crate::serving::{hand_out, work_all};
+use crate::stdio::StdioEnd;
+use sp_base::{ConnNo, NoMemory, Octets};
+use sp_frames::{BANNER, Frame, FrameFault, Framer};
+use sp_hub::{Finish, Hub, Reply};
+use sp_io::{Failed, Sink, put_all};
+use std::alloc::Global;
+
+/// The number of the one connection.
+const CONNECTION: ConnNo = ConnNo(0);
+
+/// The most bytes of input that are looked at: 1 GiB.
+const MOST_INPUT: u64 = 1 << 30;
+
+/// Why a session stops before its input does.
+#[derive(Clone, Copy, Debug, PartialEq, Eq)]
+pub enum Stop {
+    /// The sink failed.
+    Output,
+    /// Memory was refused.
+    NoMemory,
+}
+
+impl From<NoMemory> for Stop {
+    ghost use Rattle.sp_server.specs.declared.session.Stop.TheVariants as stop;
+
+    ghost from_gives = { λ _ e. e ≡ stop.NoMemory };
+
+    fn from(_e: NoMemory) -> Stop {
+        Stop::NoMemory
+    }
+}
+
+impl From<Failed> for Stop {
+    ghost use Rattle.sp_server.specs.declared.session.Stop.TheVariants as stop;
+
+    ghost from_gives = { λ _ e. e ≡ stop.Output };
+
+    fn from(_e: Failed) -> Stop {
+        Stop::Output
+    }
+}
+
+/// Whether an event happened: the error is want of memory, and then it didn't.
+fn happened(reply: Reply) -> Result<(), NoMemory>
+    ensures { OnOk result (reply ≢ Reply.NoMemory) }
+{
+    match reply {
+        Reply::NoMemory => Err(NoMemory),
+        _ => Ok(()),
+    }
+}
+
+/// The fault that a framer met; the error is want of memory.
+fn met_fault(fed: Result<(), FrameFault>) -> Result<Option<FrameFault>, NoMemory>
+    ensures { IfOk result (IsMet fed) }
+{
+    match fed {
+        Ok(()) => Ok(None),
+        Err(FrameFault::NoMemory) => Err(NoMemory),
+        Err(fault) => Ok(Some(fault)),
+    }
+}
+
+/// Takes all that is queued for the connection, and writes it.
+fn put_queued<O: Sink>(alloc: Global, hub: &mut Hub, sink: &mut O) -> Result<(), Stop>
+    requires { O.is_done sink.old ≡ false }
+    ensures ok { OnOk result ((frames : List Frame) × HandsOut hub.old connection frames hub.new × Appends (O.held sink.old) (O.held sink.new) (flat_map spelling frames)) }
+    ensures err { OnErr result ((text : List ℕ) × Appends (O.held sink.old) (O.held sink.new) text × IsQueueFront hub.old text) }
+    ensures cause { HasStopCause (O.faults sink.old) (O.faults sink.new) result }
+    ensures open { O.is_done sink.new ≡ false }
+{
+    let mut text = Octets::none(alloc);
+    hand_out(alloc, hub, CONNECTION, &mut text)?;
+    put_all(sink, text.slice())?;
+    Ok(())
+}
+
+/// A frame comes: it happens to the server, its open calls are worked, and what is queued then is written.
+fn answer<O: Sink>(alloc: Global, hub: &mut Hub, frame: Frame, sink: &mut O) -> Result<(), Stop>
+    requires { O.is_done sink.old ≡ false }
+    ensures ok { OnOk result ((text : List ℕ) × AnswersFrame hub.old frame text hub.new × Appends (O.held sink.old) (O.held sink.new) text) }
+    ensures err { OnErr result ((text : List ℕ) × Appends (O.held sink.old) (O.held sink.new) text × IsAnswerFront hub.old frame text) }
+    ensures cause { HasStopCause (O.faults sink.old) (O.faults sink.new) result }
+    ensures open { O.is_done sink.new ≡ false }
+{
+    happened(hub.frame(CONNECTION, frame, 0))?;
+    work_all(hub, CONNECTION)?;
+    put_queued(alloc, hub, sink)
+}
+
+/// Answers all frames that are ready.
+fn answer_ready<O: Sink>(
+    alloc: Global,
+    hub: &mut Hub,
+    framer: &mut Framer,
+    sink: &mut O,
+) -> Result<(), Stop>
+    requires { O.is_done sink.old ≡ false }
+    ensures ok { OnOk result ((input before : List ℕ) → IsBehind framer.old hub.old input before
+        → (text : List ℕ) × Appends (O.held sink.old) (O.held sink.new) text × IsAnswered input (before ++ text) framer.new.rest hub.new) }
+    ensures err { OnErr result ((input before : List ℕ) → IsBehind framer.old hub.old input before → IsCutBehind input before (O.held sink.old) (O.held sink.new)) }
+    ensures ready { OnOk result (framer.new.ready ≡ []) }
+    ensures rest { OnOk result (framer.new.rest ≡ framer.old.rest) }
+    ensures stop { OnOk result (framer.new.stop ≡ framer.old.stop) }
+    ensures cause { HasStopCause (O.faults sink.old) (O.faults sink.new) result }
+    ensures open { O.is_done sink.new ≡ false }
+{
+    while let Some(frame) = framer.next() {
+        answer(alloc, hub, frame, sink)?;
+    }
+    Ok(())
+}
+
+/// A server with its one connection, and what it was fed so far.
+#[derive(Drop)]
+pub struct Session {
+    alloc: Global,
+    hub: Hub,
+    framer: Framer,
+    fed: u64,
+}
+
+impl Session {
+    /// Opens the connection, and writes the banner.
+    pub fn begin<O: Sink>(alloc: Global, sink: &mut O) -> Result<Session, Stop>
+        requires { O.is_done sink.old ≡ false }
+        ensures ok { IfOk result (λ session. IsAt session None [] banner) }
+        ensures banner { OnOk result (Appends (O.held sink.old) (O.held sink.new) banner) }
+        ensures err { OnErr result (IsCutBehind [] [] (O.held sink.old) (O.held sink.new)) }
+        ensures cause { HasStopCause (O.faults sink.old) (O.faults sink.new) result }
+        ensures open { O.is_done sink.new ≡ false }
+    {
+        let framer = Framer::fresh(alloc);
+        let mut hub = Hub::fresh(alloc)?;
+        happened(hub.opened(CONNECTION))?;
+        put_all(sink, &BANNER)?;
+        Ok(Session {
+            alloc,
+            hub,
+            framer,
+            fed: 0,
+        })
+    }
+
+    /// The offset behind the last whole frame.
+    fn offset(&self) -> u64
+        requires { length self.now.framer.rest ≤ self.now.fed }
+        ensures { result + length self.now.framer.rest ≡ self.now.fed }
+    {
+        self.fed - self.framer.unread() as u64
+    }
+
+    /// The input ends: that happens to the server, and what is queued then is written.
+    fn close<O: Sink>(&mut self, how: Finish, sink: &mut O) -> Result<(), Stop>
+        requires { O.is_done sink.old ≡ false }
+        ensures ok { OnOk result ((input before rest : List ℕ) (offset : ℕ) → IsAnswered input before rest self.old.hub → EndsAs how rest → offset + length rest ≡ length input
+            → (text : List ℕ) × Appends (O.held sink.old) (O.held sink.new) text × IsStdioOut input how offset (before ++ text)) }
+        ensures err { OnErr result ((input before rest : List ℕ) (offset : ℕ) → IsAnswered input before rest self.old.hub → EndsAs how rest → offset + length rest ≡ length input
+            → IsCutBehind input before (O.held sink.old) (O.held sink.new)) }
+        ensures cause { HasStopCause (O.faults sink.old) (O.faults sink.new) result }
+        ensures open { O.is_done sink.new ≡ false }
+    {
+        happened(self.hub.ended(CONNECTION, how))?;
+        put_queued(self.alloc, &mut self.hub, sink)
+    }
+
+    /// The input is no frame from here on.
+    fn break_off<O: Sink>(&mut self, fault: FrameFault, sink: &mut O) -> StdioEnd
+        requires open { O.is_done sink.old ≡ false }
+        requires at { (input : List ℕ) × (before : List ℕ) × IsAt self.old (Some fault) input before }
+        ensures ends { (input before : List ℕ) → IsAt self.old (Some fault) input before → IsBrokenOff result input before (O.held sink.old) (O.held sink.new) }
+        ensures cause { HasEndCause (O.faults sink.old) (O.faults sink.new) result }
+        ensures unread { is_read result ≡ false }
+        ensures open { O.is_done sink.new ≡ false }
+    {
+        let offset = self.offset();
+        match self.close(Finish::Bad(fault), sink) {
+            Ok(()) => StdioEnd::BadAt(offset),
+            Err(stop) => stop.into(),
+        }
+    }
+
+    /// Bytes of the input come, and what they complete is answered; the fault that stands behind it, if one does.
+    fn feed<O: Sink>(&mut self, bytes: &[u8], sink: &mut O) -> Result<Option<FrameFault>, Stop>
+        requires open { O.is_done sink.old ≡ false }
+        requires few { self.old.fed + length bytes.now ≤ most_input }
+        ensures ok { IfOk result (λ fault. (input before : List ℕ) → IsAt self.old None input before
+            → (text : List ℕ) × Appends (O.held sink.old) (O.held sink.new) text × IsAt self.new fault (input ++ bytes.now) (before ++ text)) }
+        ensures err { OnErr result ((input before : List ℕ) → IsAt self.old None input before → IsCutBehind (input ++ bytes.now) before (O.held sink.old) (O.held sink.new)) }
+        ensures cause { HasStopCause (O.faults sink.old) (O.faults sink.new) result }
+        ensures open { O.is_done sink.new ≡ false }
+    {
+        let fault = met_fault(self.framer.feed(bytes))?;
+        self.fed += bytes.len() as u64;
+        answer_ready(self.alloc, &mut self.hub, &mut self.framer, sink)?;
+        Ok(fault)
+    }
+
+    /// A piece of the input comes, and what it completes is answered; the end, if it brings one about.
+    pub fn receive<O: Sink>(&mut self, piece: &[u8], sink: &mut O) -> Option<StdioEnd>
+        requires open { O.is_done sink.old ≡ false }
+        requires at { (input : List ℕ) × (before : List ℕ) × IsAt self.old None input before }
+        ensures goes_on { IfNone result ((input before : List ℕ) → IsAt self.old None input before
+            → (text : List ℕ) × Appends (O.held sink.old) (O.held sink.new) text × IsAt self.new None (input ++ piece.now) (before ++ text)) }
+        ensures ends { IfSome result (λ end. (input before : List ℕ) → IsAt self.old None input before
+            → IsServedBehind end (input ++ piece.now) before (O.held sink.old) (O.held sink.new)) }
+        ensures cause { IfSome result (HasEndCause (O.faults sink.old) (O.faults sink.new)) }
+        ensures unread { IfSome result (λ end. is_read end ≡ false) }
+        ensures later { O.faults sink.old ≤ O.faults sink.new }
+        ensures open { O.is_done sink.new ≡ false }
+    {
+        let room = (MOST_INPUT - self.fed).min(piece.len() as u64) as usize;
+        let (inside, beyond) = piece.split_at(room);
+        match self.feed(inside, sink) {
+            Err(stop) => Some(stop.into()),
+            Ok(Some(fault)) => Some(self.break_off(fault, sink)),
+            Ok(None) if beyond.is_empty() => None,
+            Ok(None) => Some(StdioEnd::TooMuch),
+        }
+    }
+
+    /// The input ended behind what was fed.
+    pub fn finish<O: Sink>(&mut self, sink: &mut O) -> StdioEnd
+        requires open { O.is_done sink.old ≡ false }
+        requires at { (input : List ℕ) × (before : List ℕ) × IsAt self.old None input before }
+        ensures ends { (input before : List ℕ) → IsAt self.old None input before → IsServedBehind result input before (O.held sink.old) (O.held sink.new) }
+        ensures cause { HasEndCause (O.faults sink.old) (O.faults sink.new) result }
+        ensures open { O.is_done sink.new ≡ false }
+    {
+        let offset = self.offset();
+        if self.framer.inside() {
+            match self.close(Finish::Inside, sink) {
+                Ok(()) => StdioEnd::InsideAt(offset),
+                Err(stop) => stop.into(),
+            }
+        } else {
+            match self.close(Finish::Clean, sink) {
+                Ok(()) => StdioEnd::Clean,
+                Err(stop) => stop.into(),
+            }
+        }
+    }
+}
