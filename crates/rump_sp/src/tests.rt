@@ -175,103 +175,33 @@ fn faults(rt: HostRuntime) -> Result<(), Fail> {
     let row = "a.1 rump 1 getpid = 2\n";
     let input = "rump_sp: input fault\n";
     let output = "rump_sp: output fault\n";
+    let line = "rump_sp: script line ";
     let script = "guest a\ngetpid\n";
-    let rows: [(&str, Fails, u8, &str, &str); 9] = [
-        (script, NO_FAILS, 0, row, ""),
-        (
-            script,
-            Fails {
-                input: &[0],
-                out: &[],
-                err: &[],
-            },
-            74,
-            "",
-            input,
-        ),
-        (
-            script,
-            Fails {
-                input: &[1],
-                out: &[],
-                err: &[],
-            },
-            74,
-            "",
-            input,
-        ),
-        (
-            script,
-            Fails {
-                input: &[2],
-                out: &[],
-                err: &[],
-            },
-            0,
-            row,
-            "",
-        ),
-        (
-            script,
-            Fails {
-                input: &[],
-                out: &[0],
-                err: &[],
-            },
-            74,
-            "",
-            output,
-        ),
-        (
-            script,
-            Fails {
-                input: &[],
-                out: &[1],
-                err: &[],
-            },
-            0,
-            row,
-            "",
-        ),
-        (
-            script,
-            Fails {
-                input: &[1],
-                out: &[0],
-                err: &[],
-            },
-            74,
-            "",
-            input,
-        ),
-        (
-            script,
-            Fails {
-                input: &[],
-                out: &[0],
-                err: &[0],
-            },
-            74,
-            "",
-            "",
-        ),
-        (
-            "frob\n",
-            Fails {
-                input: &[],
-                out: &[],
-                err: &[1],
-            },
-            65,
-            "",
-            "rump_sp: script line ",
-        ),
+    let rows: [(
+        &str,
+        &'static [u64],
+        &'static [u64],
+        &'static [u64],
+        u8,
+        &str,
+        &str,
+    ); 9] = [
+        (script, &[], &[], &[], 0, row, ""),
+        (script, &[0], &[], &[], 74, "", input),
+        (script, &[1], &[], &[], 74, "", input),
+        (script, &[2], &[], &[], 0, row, ""),
+        (script, &[], &[0], &[], 74, "", output),
+        (script, &[], &[1], &[], 0, row, ""),
+        (script, &[1], &[0], &[], 74, "", input),
+        (script, &[], &[0], &[0], 74, "", ""),
+        ("frob\n", &[], &[], &[1], 65, "", line),
     ];
-    for (script, fails, status, out, err) in rows {
+    for (script, input, out, err, status, written, message) in rows {
+        let fails = Fails { input, out, err };
         let got = outcome_of(rt.alloc(), &["bench", "-r"], script.as_bytes(), fails)?;
         assert_eq!(rt; got.status, status);
-        assert_eq!(rt; str::from_utf8(got.out.slice())?, out);
-        assert_eq!(rt; str::from_utf8(got.err.slice())?, err);
+        assert_eq!(rt; str::from_utf8(got.out.slice())?, written);
+        assert_eq!(rt; str::from_utf8(got.err.slice())?, message);
     }
     Ok(())
 }

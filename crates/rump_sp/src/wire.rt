@@ -49,7 +49,9 @@ fn pass(alloc: Global, framer: &mut Framer, frame: &Frame) -> Result<Frame, NoMe
 
 impl Wire {
     /// A direction on which nothing was sent yet.
-    pub fn fresh(alloc: Global) -> Wire {
+    pub fn fresh(alloc: Global) -> Wire
+        ensures { IsIdle result }
+    {
         Wire {
             alloc,
             framer: Framer::fresh(alloc),
