@@ -1,9 +1,10 @@
 -- A whole run, from the source to the sink.
-use Rattle.std.proofs.Common.{◌≡◌, ℕ, ◌+◌, ◌-◌, ◌≤◌, ◌<◌, Bool, true, false, List, [], ◌∷◌, ◌++◌, length, Option, Some, None, refl, sym, ap, subst, ◌∙◌, append_assoc, length-append, arith}
+use Rattle.std.proofs.Common.{◌≡◌, ℕ, ◌+◌, ◌-◌, ◌≤◌, ◌<◌, Bool, true, false, List, [], ◌∷◌, ◌++◌, length, Option, Some, None, refl, sym, ap, subst, ◌∙◌, length-append, arith}
 use Rattle.std.proofs.lemmas.List.{append-nil}
 use Rattle.std.specs.Prelude.{IsTrue, ◌↔◌}
 use Rattle.std.specs.Io.KnownBytes.{Keeps, Appends, Consumes, IsAtEnd}
 use Rattle.sp_io.specs.Whole.{IsAll}
+use Rattle.sp_io.proofs.Known.{appends_then, consumes_then, appends_keeps}
 use Rattle.sp_server.specs.declared.session.Session.{Session}
 use Rattle.sp_server.specs.declared.session.Stop.{Stop}
 use Rattle.sp_server.specs.declared.session.Stop.TheVariants as stop
@@ -11,7 +12,7 @@ use Rattle.sp_server.specs.declared.stdio.StdioEnd.{StdioEnd}
 use Rattle.sp_server.specs.declared.stdio.StdioEnd.TheVariants as end
 use Rattle.sp_server.specs.Stdio.{most_input, IsServed, is_read}
 use Rattle.sp_server.specs.Session.{end_of, IsAt, IsCutBehind, IsServedBehind}
-use Rattle.sp_server.proofs.SessionLaws.{appends_nothing, appends_both, cut_answered}
+use Rattle.sp_server.proofs.SessionLaws.{appends_nothing, cut_answered}
 
 -- ---- known bytes
 
@@ -19,23 +20,11 @@ consumes_nothing : (left : Option (List ℕ)) → Consumes left left []
 consumes_nothing None = tt
 consumes_nothing (Some xs) = refl
 
-consumes_both : (a b c : Option (List ℕ)) (xs ys : List ℕ) → Consumes a b xs → Consumes b c ys → Consumes a c (xs ++ ys)
-consumes_both None b c xs ys first second = tt
-consumes_both (Some xs0) None c xs ys first second = absurd first
-consumes_both (Some xs0) (Some ys0) None xs ys first second = absurd second
-consumes_both (Some xs0) (Some ys0) (Some zs0) xs ys first second = first ∙ (ap (λ t. xs ++ t) second ∙ sym (append_assoc xs ys zs0))
-
 consumes_keeps : (a b c : Option (List ℕ)) (xs : List ℕ) → Consumes a b xs → Keeps b c → Consumes a c xs
 consumes_keeps None b c xs first second = tt
 consumes_keeps (Some xs0) None c xs first second = absurd first
 consumes_keeps (Some xs0) (Some ys0) None xs first second = absurd second
 consumes_keeps (Some xs0) (Some ys0) (Some zs0) xs first second = first ∙ ap (λ t. xs ++ t) (sym second)
-
-appends_keeps : (a b c : Option (List ℕ)) (xs : List ℕ) → Appends a b xs → Keeps b c → Appends a c xs
-appends_keeps None b c xs first second = tt
-appends_keeps (Some xs0) None c xs first second = absurd first
-appends_keeps (Some xs0) (Some ys0) None xs first second = absurd second
-appends_keeps (Some xs0) (Some ys0) (Some zs0) xs first second = second ∙ first
 
 -- all was taken, where nothing is left then
 all_taken : (a b : Option (List ℕ)) (xs : List ℕ) → Consumes a b xs → IsAtEnd b → IsAll a xs
@@ -94,9 +83,9 @@ finished s end piece left left1 left2 passed passed1 passed2 held held1 held2 so
     record {
       taken = so.0;
       text = so.1 ++ ends.0;
-      source = subst (Consumes left left2) whole (consumes_both left left1 left2 so.0 piece so.3 takes);
-      counted = subst (Appends passed passed2) whole (appends_both passed passed1 passed2 so.0 piece so.4 counts);
-      sink = appends_both held held1 held2 so.1 ends.0 so.5 ends.1;
+      source = subst (Consumes left left2) whole (consumes_then left left1 left2 so.0 piece so.3 takes);
+      counted = subst (Appends passed passed2) whole (appends_then passed passed1 passed2 so.0 piece so.4 counts);
+      sink = appends_then held held1 held2 so.1 ends.0 so.5 ends.1;
       serves = ends.2;
       all = λ e. all_taken left left1 so.0 so.3 at;
     }
@@ -107,9 +96,9 @@ pub broken : (s : Session) (end : StdioEnd) (piece : List ℕ) (left left1 left2
 broken s end piece left left1 left2 passed passed1 passed2 held held1 held2 so takes counts unread ends = record {
   taken = so.0 ++ piece;
   text = so.1 ++ ends.0;
-  source = consumes_both left left1 left2 so.0 piece so.3 takes;
-  counted = appends_both passed passed1 passed2 so.0 piece so.4 counts;
-  sink = appends_both held held1 held2 so.1 ends.0 so.5 ends.1;
+  source = consumes_then left left1 left2 so.0 piece so.3 takes;
+  counted = appends_then passed passed1 passed2 so.0 piece so.4 counts;
+  sink = appends_then held held1 held2 so.1 ends.0 so.5 ends.1;
   serves = ends.2;
   all = λ e. let never : false ≡ true = sym unread ∙ e in absurd cc;
 }
@@ -118,7 +107,7 @@ broken s end piece left left1 left2 passed passed1 passed2 held held1 held2 so t
 pub goes_on : (s t : Session) (piece : List ℕ) (left left1 left2 passed passed1 passed2 held held1 held2 : Option (List ℕ)) → (so : IsRunning s left left1 passed passed1 held held1)
     → Consumes left1 left2 piece → Appends passed1 passed2 piece → (text : List ℕ) × Appends held1 held2 text × IsAt t None (so.0 ++ piece) (so.1 ++ text) → IsRunning t left left2 passed passed2 held held2
 goes_on s t piece left left1 left2 passed passed1 passed2 held held1 held2 so takes counts on =
-    (so.0 ++ piece, so.1 ++ on.0, on.2, consumes_both left left1 left2 so.0 piece so.3 takes, appends_both passed passed1 passed2 so.0 piece so.4 counts, appends_both held held1 held2 so.1 on.0 so.5 on.1)
+    (so.0 ++ piece, so.1 ++ on.0, on.2, consumes_then left left1 left2 so.0 piece so.3 takes, appends_then passed passed1 passed2 so.0 piece so.4 counts, appends_then held held1 held2 so.1 on.0 so.5 on.1)
 
 -- and there is less to come
 pub less_to_come : (s t : Session) (taken piece text more : List ℕ) → IsAt s None taken text → IsAt t None (taken ++ piece) more → 0 < length piece → most_input - t.fed < most_input - s.fed

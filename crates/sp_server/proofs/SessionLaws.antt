@@ -17,6 +17,7 @@ use Rattle.sp_hub.specs.declared.event.Event.TheVariants as event
 use Rattle.sp_hub.specs.declared.event.Finish.{Finish}
 use Rattle.sp_hub.specs.declared.event.Finish.TheVariants as finish
 use Rattle.sp_hub.specs.Machine.{Machine}
+use Rattle.sp_io.proofs.Known.{appends_then}
 use Rattle.sp_server.specs.declared.session.Session.{Session}
 use Rattle.sp_server.specs.declared.session.Stop.{Stop}
 use Rattle.sp_server.specs.declared.session.Stop.TheVariants as stop
@@ -32,13 +33,6 @@ use Rattle.sp_server.specs.Session.{end_of, IsBehind, IsAt, IsMet, IsQueueFront,
 pub appends_nothing : (held : Option (List ℕ)) → Appends held held []
 appends_nothing None = tt
 appends_nothing (Some xs) = sym (append-nil xs)
-
--- what is appended in two steps is appended
-pub appends_both : (a b c : Option (List ℕ)) (xs ys : List ℕ) → Appends a b xs → Appends b c ys → Appends a c (xs ++ ys)
-appends_both None b c xs ys first second = tt
-appends_both (Some xs0) None c xs ys first second = absurd first
-appends_both (Some xs0) (Some ys0) None xs ys first second = absurd second
-appends_both (Some xs0) (Some ys0) (Some zs0) xs ys first second = second ∙ (ap (λ t. t ++ ys) first ∙ append_assoc xs0 xs ys)
 
 -- ---- frames and their answers
 
@@ -322,7 +316,7 @@ pub broken_serves : (end : StdioEnd) (taken input more before text : List ℕ) (
     → IsBrokenOff end input (before ++ text) b c → IsServedBehind end taken before a c
 broken_serves (end.BadAt offset) taken input more before text a b c front whole puts is = (
   text ++ is.0,
-  appends_both a b c text is.0 puts is.2,
+  appends_then a b c text is.0 puts is.2,
   (
     is.1,
     subst (λ t. IsStdioOut t (finish.Bad is.1) offset (before ++ (text ++ is.0))) (sym front)
@@ -331,13 +325,13 @@ broken_serves (end.BadAt offset) taken input more before text a b c front whole 
 )
 broken_serves end.OutputFault taken input more before text a b c front whole puts is = (
   text ++ is.0,
-  appends_both a b c text is.0 puts is.1,
+  appends_then a b c text is.0 puts is.1,
   subst (λ t. IsCutOff t (before ++ (text ++ is.0))) whole
       (cut_more input more (before ++ (text ++ is.0)) (subst (IsCutOff input) (append_assoc before text is.0) is.2)),
 )
 broken_serves end.NoMemory taken input more before text a b c front whole puts is = (
   text ++ is.0,
-  appends_both a b c text is.0 puts is.1,
+  appends_then a b c text is.0 puts is.1,
   subst (λ t. IsCutOff t (before ++ (text ++ is.0))) whole
       (cut_more input more (before ++ (text ++ is.0)) (subst (IsCutOff input) (append_assoc before text is.0) is.2)),
 )

@@ -1,7 +1,8 @@
 use Rattle.std.proofs.Common.{◌++◌, ◌∙◌, sym, subst, append_assoc, arith}
 use Rattle.sp_server.specs.Stdio.{IsAnswered, IsCutOff}
 use Rattle.sp_server.specs.Session.{IsBehind}
-use Rattle.sp_server.proofs.SessionLaws.{appends_both, one_behind, all_behind, cut_answer, always_err}
+use Rattle.sp_io.proofs.Known.{appends_then}
+use Rattle.sp_server.proofs.SessionLaws.{one_behind, all_behind, cut_answer, always_err}
 use Rattle.sp_server.proofs.session.answer_ready.Goals as goal
 
 pub loop-frame-preserved : goal.loop-frame-preserved
@@ -14,7 +15,7 @@ loop-frame-preserved g c =
       so = λ input before behind.
           let t = c.loop-frame.invariant.so input before behind in (
             t.0 ++ a.0,
-            appends_both (held c.args.sink.now) (held c.loop-frame.sink) (held c.answer.new.sink) t.0 a.0 t.1 a.2,
+            appends_then (held c.args.sink.now) (held c.loop-frame.sink) (held c.answer.new.sink) t.0 a.0 t.1 a.2,
             subst (IsBehind c.next.new.self c.answer.new.hub input) (append_assoc before t.0 a.0)
                 (one_behind c.loop-frame.framer c.next.new.self c.loop-frame.hub c.answer.new.hub input (before ++ t.0) a.0 c.in-Some.frame c.in-Some.ensures.follows a.1 t.2),
           );
@@ -31,7 +32,7 @@ returns-in_err-answer-clause-err g c =
     always_err c.from_residual.result (λ input before behind.
     let t = c.loop-frame.invariant.so input before behind in (
       t.0 ++ e.0,
-      appends_both (held c.args.sink.now) (held c.loop-frame.sink) (held c.answer.new.sink) t.0 e.0 t.1 e.1,
+      appends_then (held c.args.sink.now) (held c.loop-frame.sink) (held c.answer.new.sink) t.0 e.0 t.1 e.1,
       subst (IsCutOff input) (append_assoc before t.0 e.0)
           (cut_answer c.loop-frame.framer c.next.new.self c.loop-frame.hub input (before ++ t.0) e.0 c.in-Some.frame c.in-Some.ensures.follows e.2 t.2),
     ))
