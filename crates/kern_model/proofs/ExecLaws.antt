@@ -3,10 +3,10 @@ use Rattle.std.specs.Prelude.{slice_set, if◌then◌else◌, length}
 use Rattle.std.proofs.Common.{◌≡◌, ◌≢◌, ℕ, zero, suc, ◌<◌, ◌≤◌, ◌⊎◌, inl, inr, Bool, true, false, List, [], ◌∷◌, Option, Some, None, refl, sym, ap, subst, ◌∙◌, arith}
 use Rattle.std.proofs.lemmas.Bool.{cases_order}
 use Rattle.kern_model.specs.declared.node.Row.{Row}
-use Rattle.kern_model.specs.Table.{at}
+use Rattle.sp_base.specs.Table.{at}
 use Rattle.kern_model.specs.State.{State, Process, rows_in, rows_of, with_row, replace_rows, close_row_by, close_row, close_rows, closes}
 use Rattle.kern_model.specs.Laws.{kept_row}
-use Rattle.kern_model.proofs.TableLaws.{at_other, at_same}
+use Rattle.sp_base.proofs.TableLaws.{at_other, at_same}
 use Rattle.kern_model.proofs.KeepLaws.{let_go_processes}
 
 -- the rows of a process that has others by now

@@ -7,14 +7,14 @@ use Rattle.kern_model.specs.declared.operation.Op.TheVariants.{Sys, Attach, Fork
 use Rattle.kern_model.specs.declared.operation.Ins.{Ins}
 use Rattle.kern_model.specs.declared.operation.Ins.TheVariants.{Given, Fault}
 use Rattle.kern_model.specs.declared.outcome.Outcome.{Outcome}
-use Rattle.kern_model.specs.Table.{at}
+use Rattle.sp_base.specs.Table.{at}
 use Rattle.kern_model.specs.Outcome.{failure}
 use Rattle.kern_model.specs.State.{State, Process, opening, rows_in}
 use Rattle.kern_model.specs.Step.{Step}
 use Rattle.kern_model.specs.Act.{act, act_op}
 use Rattle.kern_model.specs.Journal.{state_of_step, after_entry, state_from, state_after}
 use Rattle.kern_model.specs.Laws.{HasTables}
-use Rattle.kern_model.proofs.TableLaws.{at_blank}
+use Rattle.sp_base.proofs.TableLaws.{at_blank}
 use Rattle.kern_model.proofs.SoundLaws.{each_is}
 use Rattle.kern_model.proofs.ProcessLaws.{keeps_tables, attach_makes, fork_makes, exit_ends, call_keeps, exec_keeps}
 

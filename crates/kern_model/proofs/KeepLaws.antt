@@ -6,9 +6,9 @@ use Rattle.kern_model.specs.declared.node.Object.TheVariants as object
 use Rattle.kern_model.specs.declared.node.Object.{Object}
 use Rattle.kern_model.specs.declared.node.OpenFile.{OpenFile}
 use Rattle.kern_model.specs.declared.node.Row.{Row}
-use Rattle.kern_model.specs.Table.{at}
+use Rattle.sp_base.specs.Table.{at}
 use Rattle.kern_model.specs.State.{State, Process, rows_in, rows_of, directory_in, directory_of, with_process, with_row, replace_rows, replace_directory, stays, without_unused, is_held, let_go_of, let_go_object, let_go, close_row_by, close_row, close_rows}
-use Rattle.kern_model.proofs.TableLaws.{at_other, seen_same}
+use Rattle.sp_base.proofs.TableLaws.{at_other, seen_same}
 
 -- one process may have other rows or another working directory, and all else of the processes is the same
 pub record Keeps (pid : ℕ) (s t : State) : Type 0 where

@@ -1,6 +1,5 @@
 pub mod NamesLaws
 pub mod StateLaws
-pub mod TableLaws
 pub mod KeepLaws
 pub mod ExecLaws
 pub mod SoundLaws

@@ -8,7 +8,7 @@ use Rattle.kern_model.specs.declared.node.Access.{Access}
 use Rattle.kern_model.specs.declared.node.Node.{Node}
 use Rattle.kern_model.specs.declared.walk.Walked.{Walked}
 use Rattle.kern_model.specs.declared.walk.Walked.TheVariants.{Found, Missing, Faulty}
-use Rattle.kern_model.specs.Table.{at, lowest_unused}
+use Rattle.sp_base.specs.Table.{at, lowest_unused}
 use Rattle.kern_model.specs.Name.{Path, is_same_path, has_entries, name_count}
 use Rattle.kern_model.specs.State.{State, Process, root, rows_of, new_file, new_directory, directory_in, replace_directory, with_bytes, with_node, is_directory, is_socket, is_working_directory, has_room}
 use Rattle.kern_model.specs.Walk.{walk}

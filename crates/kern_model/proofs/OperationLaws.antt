@@ -5,7 +5,7 @@ use Rattle.kern_model.specs.declared.operation.Op.TheVariants.{Attach, Fork, Exi
 use Rattle.kern_model.specs.declared.operation.Ins.{Ins}
 use Rattle.kern_model.specs.declared.operation.Ins.TheVariants.{Given, Fault}
 use Rattle.kern_model.specs.declared.outcome.Outcome.{Outcome}
-use Rattle.kern_model.specs.Table.{at}
+use Rattle.sp_base.specs.Table.{at}
 use Rattle.kern_model.specs.Outcome.{failure}
 use Rattle.kern_model.specs.State.{State, fresh_process, rows_of, directory_of}
 use Rattle.kern_model.specs.Step.{Step}

@@ -9,7 +9,7 @@ use Rattle.kern_model.specs.declared.operation.Op.{Op}
 use Rattle.kern_model.specs.declared.operation.Op.TheVariants.{Sys, Attach, Fork, Exec, Exit}
 use Rattle.kern_model.specs.declared.operation.Ins.{Ins}
 use Rattle.kern_model.specs.declared.operation.Ins.TheVariants.{Given, Fault}
-use Rattle.kern_model.specs.Table.{at, lowest_unused}
+use Rattle.sp_base.specs.Table.{at, lowest_unused}
 use Rattle.kern_model.specs.Name.{Path, path_cmp, is_same_path}
 use Rattle.kern_model.specs.State.{State, Process, root, opening, fresh_process, directory_in, close_rows}
 use Rattle.kern_model.specs.Step.{Step}
@@ -19,7 +19,7 @@ use Rattle.kern_model.specs.Journal.{state_of_step, after_entry, state_from, sta
 use Rattle.kern_model.specs.Laws.{HasParents}
 use Rattle.kern_model.proofs.NamesLaws.{paths_total}
 use Rattle.kern_model.proofs.BelowLaws.{same_test, path_from_test}
-use Rattle.kern_model.proofs.TableLaws.{at_blank}
+use Rattle.sp_base.proofs.TableLaws.{at_blank}
 use Rattle.kern_model.proofs.TreeLaws.{MayWork, HasTree, tree_parents, may_root, tree_process, tree_close_rows}
 use Rattle.kern_model.proofs.StepLaws.{LeavesTree, leaves_failed, leaves_answered, leaves_wrote, leaves_or_fail, leaves_found, leaves_close, leaves_dup, leaves_dup2, leaves_fcntl, leaves_open_file, leaves_read, leaves_pread, leaves_write, leaves_pwrite, leaves_seek, leaves_truncate, leaves_stat}
 use Rattle.kern_model.proofs.NameStepLaws.{leaves_open, leaves_link, leaves_unlink, leaves_mkdir, leaves_rmdir, leaves_chdir}

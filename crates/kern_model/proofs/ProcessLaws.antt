@@ -10,14 +10,14 @@ use Rattle.kern_model.specs.declared.operation.Op.TheVariants.{Sys, Attach, Fork
 use Rattle.kern_model.specs.declared.operation.Ins.{Ins}
 use Rattle.kern_model.specs.declared.operation.Ins.TheVariants.{Given, Fault}
 use Rattle.kern_model.specs.declared.outcome.Outcome.{Outcome}
-use Rattle.kern_model.specs.Table.{at, lowest_unused}
+use Rattle.sp_base.specs.Table.{at, lowest_unused}
 use Rattle.kern_model.specs.Outcome.{success}
 use Rattle.kern_model.specs.State.{State, Process, fresh_process, rows_in, with_process, close_rows}
 use Rattle.kern_model.specs.Step.{Step, answered, or_fail}
 use Rattle.kern_model.specs.Descriptors.{act_attach, act_fork, act_exec, act_exit}
 use Rattle.kern_model.specs.Act.{act, act_op, act_call}
 use Rattle.kern_model.specs.Laws.{HasTables}
-use Rattle.kern_model.proofs.TableLaws.{at_other, at_same, at_within, all_set, lowest_unused_is}
+use Rattle.sp_base.proofs.TableLaws.{at_other, at_same, at_within, all_set, lowest_unused_is}
 use Rattle.kern_model.proofs.KeepLaws.{Keeps, keeps_close_rows}
 use Rattle.kern_model.proofs.SoundLaws.{FailsClean, Each, each_is, Sound, clean_failure, clean_success, sound_failed, sound_answered}
 use Rattle.kern_model.proofs.CallLaws.{sound_call}

@@ -5,7 +5,7 @@ use Rattle.kern_model.specs.declared.node.Access.{Access}
 use Rattle.kern_model.specs.declared.node.Access.TheVariants.{Reading, Writing, Both}
 use Rattle.kern_model.specs.declared.node.OpenFile.{OpenFile}
 use Rattle.kern_model.specs.declared.node.Row.{Row}
-use Rattle.kern_model.specs.Table.{at, lowest_unused}
+use Rattle.sp_base.specs.Table.{at, lowest_unused}
 use Rattle.kern_model.specs.State.{State, fresh_process, rows_of, with_process, with_row, replace_file, close_row, close_rows}
 use Rattle.kern_model.specs.Step.{Step, failed, answered, or_fail, fail_if}
 

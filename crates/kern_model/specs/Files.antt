@@ -10,7 +10,7 @@ use Rattle.kern_model.specs.declared.node.Object.TheVariants as object
 use Rattle.kern_model.specs.declared.node.OpenFile.{OpenFile}
 use Rattle.std.specs.FinMap.{insert}
 use Rattle.std.specs.Int.{w32, w64, to_le_bytes}
-use Rattle.kern_model.specs.Table.{at, lowest_unused}
+use Rattle.sp_base.specs.Table.{at, lowest_unused}
 use Rattle.kern_model.specs.Name.{Path, name_count}
 use Rattle.kern_model.specs.State.{State, new_file, rows_of, with_row, with_file, replace_file, with_node, with_bytes, bytes_of, kind_in, is_directory, is_socket, total_size, has_room}
 use Rattle.kern_model.specs.declared.walk.Walked.{Walked}

@@ -7,7 +7,7 @@ use Rattle.kern_model.specs.declared.journal.Who.{Who}
 use Rattle.kern_model.specs.declared.operation.Op.{Op}
 use Rattle.kern_model.specs.declared.operation.Op.TheVariants.{Sys, Attach, Fork, Exec, Exit}
 use Rattle.kern_model.specs.declared.operation.Ins.{Ins}
-use Rattle.kern_model.specs.Table.{at}
+use Rattle.sp_base.specs.Table.{at}
 use Rattle.kern_model.specs.State.{State, opening}
 use Rattle.kern_model.specs.Step.{Step}
 use Rattle.kern_model.specs.Needs.{FitsIns}

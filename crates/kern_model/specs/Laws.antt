@@ -6,7 +6,7 @@ use Rattle.kern_model.specs.declared.node.Row.{Row}
 use Rattle.kern_model.specs.declared.operation.Ins.TheVariants.{Given}
 use Rattle.kern_model.specs.declared.operation.Op.TheVariants.{Sys}
 use Rattle.kern_model.specs.declared.walk.Walked.TheVariants.{Found, Missing}
-use Rattle.kern_model.specs.Table.{at}
+use Rattle.sp_base.specs.Table.{at}
 use Rattle.kern_model.specs.Name.{Path, Names}
 use Rattle.kern_model.specs.Outcome.{success}
 use Rattle.kern_model.specs.State.{State, rows_of, closes, is_directory}

@@ -1,4 +1,3 @@
-pub mod Table
 pub mod Outcome
 pub mod Name
 pub mod State

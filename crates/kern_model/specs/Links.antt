@@ -2,7 +2,7 @@
 use Rattle.std.specs.Prelude.{ℕ, ◌==◌, nat_le, Bool, not, ◌&&◌, ◌||◌, List, [], length, is_some, if◌then◌else◌}
 use Rattle.std.specs.FinMap.{insert, remove}
 use Rattle.sp_base.specs.declared.errno.Errno.TheVariants.{Eperm, Enoent, Ebusy, Eexist, Enotdir, Eisdir, Einval, Enospc, Emlink, Enotempty}
-use Rattle.kern_model.specs.Table.{at}
+use Rattle.sp_base.specs.Table.{at}
 use Rattle.kern_model.specs.Name.{Path, is_same_path, name_count, has_entries, below, renamed}
 use Rattle.kern_model.specs.State.{State, new_directory, with_process, replace_directory, with_node, is_directory, is_working_directory, without_unused, has_room}
 use Rattle.kern_model.specs.declared.walk.Walked.{Walked}

@@ -9,7 +9,7 @@ use Rattle.kern_model.specs.declared.node.Object.{Object}
 use Rattle.kern_model.specs.declared.node.Object.TheVariants as object
 use Rattle.kern_model.specs.declared.node.OpenFile.{OpenFile}
 use Rattle.kern_model.specs.declared.node.Row.{Row}
-use Rattle.kern_model.specs.Table.{at}
+use Rattle.sp_base.specs.Table.{at}
 use Rattle.kern_model.specs.Name.{Names, name_count}
 
 -- a process: its working directory, a node, and its rows by descriptor, 0 to 127

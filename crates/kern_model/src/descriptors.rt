@@ -1,10 +1,10 @@
 ghost use Rattle.std.specs.Prelude.{◌≡◌, ℕ, ◌<◌, length, slice_set, IfOk, IsTrue, Option, None, Some};
 ghost use Rattle.std.specs.List.{list_any};
-ghost use Rattle.kern_model.specs.Table.{at, lowest_unused};
+ghost use Rattle.sp_base.specs.Table.{at, lowest_unused};
 ghost use Rattle.kern_model.specs.State.{Process, fresh_process, is_row_of};
 
 use crate::node::Row;
-use crate::table;
+use sp_base::table;
 use sp_base::NoMemory;
 use std::alloc::Global;
 use std::marker::Model;

@@ -11,7 +11,7 @@ ghost use Rattle.kern_model.specs.declared.operation.Op.TheVariants.{Sys, Attach
 ghost use Rattle.kern_model.specs.declared.operation.Ins.{Ins};
 ghost use Rattle.kern_model.specs.declared.operation.Ins.TheVariants.{Given, Fault};
 ghost use Rattle.kern_model.specs.declared.outcome.Outcome.{Outcome};
-ghost use Rattle.kern_model.specs.Table.{at, lowest_unused};
+ghost use Rattle.sp_base.specs.Table.{at, lowest_unused};
 ghost use Rattle.kern_model.specs.Name.{Path, below};
 ghost use Rattle.kern_model.specs.Outcome.{failure};
 ghost use Rattle.kern_model.specs.State.{State, fresh_process, rows_of, directory_of, bytes_of};

@@ -12,7 +12,6 @@ mod outcome;
 mod path;
 mod path_text;
 mod plain;
-mod table;
 #[cfg(test)]
 mod tests;
 mod walk;

@@ -1,6 +1,6 @@
 ghost use Rattle.std.specs.Prelude.{◌≡◌, ℕ, ◌<◌, length, IfOk, IsSome, Some, None, IsTrue, ◌↔◌};
 ghost use Rattle.std.specs.List.{list_any};
-ghost use Rattle.kern_model.specs.Table.{at, lowest_unused};
+ghost use Rattle.sp_base.specs.Table.{at, lowest_unused};
 ghost use Rattle.kern_model.specs.State.{opening, rows_of, is_row_of, rows_in, is_held, is_of_node, stays, without_unused, let_go_of, let_go, with_row, closes, close_row, close_rows};
 ghost use Rattle.kern_model.specs.Outcome.{success, failure};
 ghost use Rattle.kern_model.specs.Plain.{file_of_row};
@@ -22,7 +22,7 @@ use crate::descriptors::Descriptors;
 use crate::name_map::NameMap;
 use crate::node::{Node, NodeKind, Object, OpenFile, Row};
 use crate::outcome::Outcome;
-use crate::table;
+use sp_base::table;
 use sp_base::{Errno, Items, NoMemory, Octets, Pid};
 use std::alloc::Global;
 use std::marker::Model;

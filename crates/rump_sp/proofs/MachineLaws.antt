@@ -14,7 +14,7 @@ use Rattle.kern_model.specs.Journal.{entry_of_step, state_after}
 use Rattle.kern_model.specs.Outcome.{success, failure}
 use Rattle.kern_model.specs.State.{State, rows_of, close_row}
 use Rattle.kern_model.specs.Step.{Step, or_fail, answered}
-use Rattle.kern_model.specs.Table.{at}
+use Rattle.sp_base.specs.Table.{at}
 use Rattle.kern_model.specs.declared.journal.Entry.{Entry}
 use Rattle.kern_model.specs.declared.operation.Op.TheVariants.{Sys}
 use Rattle.kern_model.specs.declared.outcome.Outcome.{Outcome}

@@ -1,5 +1,6 @@
-ghost use Rattle.std.specs.Prelude.{◌≡◌};
-ghost use Rattle.sp_base.specs.Names.{sp_error_number};
+ghost use Rattle.std.specs.Prelude.{◌≡◌, IfSome, Some};
+ghost use Rattle.sp_base.specs.declared.names.SpError.{SpError};
+ghost use Rattle.sp_base.specs.Names.{sp_error_number, sp_error_of};
 
 /// A process of a kernel: 2 to 257. 0 stands for no process.
 #[derive(Clone, Copy, Debug, PartialEq, Eq, PartialOrd, Ord)]
@@ -24,6 +25,14 @@ pub struct ReqNo(pub u64);
 /// The index in a kernel's journal, from 0, of the entry that an operation appended.
 #[derive(Clone, Copy, Debug, PartialEq, Eq, PartialOrd, Ord)]
 pub struct Place(pub u64);
+
+/// An open file of a kernel, by how many were made before it.
+#[derive(Clone, Copy, Debug, PartialEq, Eq, PartialOrd, Ord)]
+pub struct FileNo(pub u64);
+
+/// A node of a file system, counted from 1, the root, in order of making. No number comes again.
+#[derive(Clone, Copy, Debug, PartialEq, Eq, PartialOrd, Ord)]
+pub struct NodeNo(pub u64);
 
 /// What hands a process over to another connection. Each cookie is used once at most.
 #[derive(Clone, Copy, Debug, PartialEq, Eq)]
@@ -72,5 +81,23 @@ impl SpError {
         ensures { result ≡ sp_error_number self }
     {
         self as u32
+    }
+
+    /// The error of a number; none for any but 1 to 7.
+    pub fn of_number(number: u32) -> Option<SpError>
+        ensures value { result ≡ sp_error_of number }
+        ensures number { IfSome result (λ error. sp_error_number error ≡ number) }
+        ensures again { (error : SpError) → sp_error_number error ≡ number → result ≡ Some error }
+    {
+        match number {
+            1 => Some(SpError::TryAgain),
+            2 => Some(SpError::Auth),
+            3 => Some(SpError::BadCookie),
+            4 => Some(SpError::ProcFull),
+            5 => Some(SpError::InExec),
+            6 => Some(SpError::Memory),
+            7 => Some(SpError::Malformed),
+            _ => None,
+        }
     }
 }

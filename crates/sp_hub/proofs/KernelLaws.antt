@@ -11,7 +11,7 @@ use Rattle.kern_model.specs.declared.operation.Ins.{Ins}
 use Rattle.kern_model.specs.declared.operation.Op.{Op}
 use Rattle.kern_model.specs.declared.operation.Op.TheVariants.{Sys}
 use Rattle.kern_model.specs.declared.outcome.Outcome.{Outcome}
-use Rattle.kern_model.specs.Table.{at, lowest_unused}
+use Rattle.sp_base.specs.Table.{at, lowest_unused}
 use Rattle.kern_model.specs.Outcome.{success}
 use Rattle.kern_model.specs.State.{State, Process, fresh_process, rows_of, with_process, close_row}
 use Rattle.kern_model.specs.Step.{Step, answered, or_fail}
@@ -19,7 +19,7 @@ use Rattle.kern_model.specs.Descriptors.{act_attach, act_exit}
 use Rattle.kern_model.specs.Act.{act, act_call}
 use Rattle.kern_model.specs.Journal.{state_after, entry_of_step, next_entry}
 use Rattle.kern_model.specs.Needs.{FitsIns}
-use Rattle.kern_model.proofs.TableLaws.{at_within, lowest_unused_is}
+use Rattle.sp_base.proofs.TableLaws.{at_within, lowest_unused_is}
 use Rattle.kern_model.proofs.SoundLaws.{each_is}
 use Rattle.kern_model.proofs.ProcessLaws.{call_keeps, exit_ends}
 use Rattle.kern_model.proofs.JournalLaws.{journal_tables}

@@ -8,7 +8,7 @@ use Rattle.sp_base.specs.declared.names.Pid.{Pid}
 use Rattle.kern_model.specs.declared.journal.Entry.{Entry}
 use Rattle.kern_model.specs.declared.journal.Who.{Who}
 use Rattle.kern_model.specs.declared.journal.Who.TheVariants.{Request, End, Cancelled, Host}
-use Rattle.kern_model.specs.Table.{at}
+use Rattle.sp_base.specs.Table.{at}
 use Rattle.kern_model.specs.Journal.{Follows, IsLegal, IsNew, HasOwnKeys, state_after}
 use Rattle.sp_hub.specs.declared.connection.Condition.TheVariants.{Fresh, Live}
 use Rattle.sp_hub.specs.declared.connection.Connection.{Connection}

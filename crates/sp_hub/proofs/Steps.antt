@@ -15,9 +15,9 @@ use Rattle.kern_model.specs.declared.journal.Who.TheVariants.{Request, End, Canc
 use Rattle.kern_model.specs.declared.operation.Ins.{Ins}
 use Rattle.kern_model.specs.declared.operation.Op.{Op}
 use Rattle.kern_model.specs.declared.operation.Op.TheVariants as op
-use Rattle.kern_model.specs.Table.{at}
+use Rattle.sp_base.specs.Table.{at}
 use Rattle.kern_model.specs.State.{State, fresh_process, with_process}
-use Rattle.kern_model.proofs.TableLaws.{lowest_unused_is}
+use Rattle.sp_base.proofs.TableLaws.{lowest_unused_is}
 use Rattle.kern_model.specs.Journal.{FitsPid, Follows, state_after, next_entry}
 use Rattle.kern_model.specs.Needs.{FitsIns}
 use Rattle.sp_hub.specs.declared.connection.Condition.{Condition}

@@ -11,7 +11,7 @@ use Rattle.sp_frames.specs.declared.frame.Body.{Body}
 use Rattle.sp_frames.specs.declared.frame.Body.TheVariants.{Guest, Sys}
 use Rattle.sp_frames.specs.declared.frame.Frame.{Frame}
 use Rattle.kern_model.specs.State.{State}
-use Rattle.kern_model.specs.Table.{lowest_unused}
+use Rattle.sp_base.specs.Table.{lowest_unused}
 use Rattle.sp_hub.specs.declared.connection.Condition.{Condition}
 use Rattle.sp_hub.specs.declared.connection.Condition.TheVariants as condition
 use Rattle.sp_hub.specs.declared.connection.Connection.{Connection}

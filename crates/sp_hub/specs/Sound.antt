@@ -5,7 +5,7 @@ use Rattle.sp_base.specs.declared.names.Pid.{Pid}
 use Rattle.sp_frames.specs.Grammar.{Fits}
 use Rattle.kern_model.specs.declared.journal.Who.{Who}
 use Rattle.kern_model.specs.declared.journal.Who.TheVariants.{Request, End, Cancelled, Host}
-use Rattle.kern_model.specs.Table.{at}
+use Rattle.sp_base.specs.Table.{at}
 use Rattle.kern_model.specs.Journal.{state_after, IsLegal, HasOwnKeys}
 use Rattle.sp_hub.specs.declared.connection.Condition.{Condition}
 use Rattle.sp_hub.specs.declared.connection.Condition.TheVariants.{Fresh, Live, InExec, Left, Draining, Closed}

@@ -7,7 +7,7 @@ use Rattle.sp_base.specs.declared.names.SpError.TheVariants.{TryAgain, ProcFull,
 use Rattle.sp_frames.specs.declared.frame.Body.{Body}
 use Rattle.sp_frames.specs.declared.frame.Body.TheVariants.{Guest, Sys}
 use Rattle.sp_frames.specs.declared.frame.Frame.{Frame}
-use Rattle.kern_model.specs.Table.{lowest_unused}
+use Rattle.sp_base.specs.Table.{lowest_unused}
 use Rattle.kern_model.specs.State.{State}
 use Rattle.sp_hub.specs.declared.connection.Connection.{Connection}
 use Rattle.sp_hub.specs.declared.verdict.Verdict.{Verdict}

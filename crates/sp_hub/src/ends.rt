@@ -3,7 +3,7 @@ ghost use Rattle.std.specs.List.{AllByRecursion};
 ghost use Rattle.sp_frames.specs.Grammar.{Fits};
 ghost use Rattle.kern_model.specs.declared.journal.Entry.{Entry};
 ghost use Rattle.kern_model.specs.Journal.{state_after};
-ghost use Rattle.kern_model.specs.Table.{at};
+ghost use Rattle.sp_base.specs.Table.{at};
 ghost use Rattle.sp_hub.specs.Connection.{process_in};
 ghost use Rattle.sp_hub.specs.Step.{StepsOrStays, take_step, exit_of, close_step, end_step};
 

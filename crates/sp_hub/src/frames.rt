@@ -5,7 +5,7 @@ ghost use Rattle.kern_model.specs.declared.journal.Entry.{Entry};
 ghost use Rattle.kern_model.specs.declared.journal.Who.TheVariants.{Request};
 ghost use Rattle.kern_model.specs.declared.operation.Op.TheVariants as op;
 ghost use Rattle.kern_model.specs.Journal.{next_entry, state_after};
-ghost use Rattle.kern_model.specs.Table.{at};
+ghost use Rattle.sp_base.specs.Table.{at};
 ghost use Rattle.sp_hub.specs.Connection.{process_in};
 ghost use Rattle.sp_hub.specs.Step.{StepsOrStays, attach_step, open_step, frame_step, hello, no_process, nothing_read};
 

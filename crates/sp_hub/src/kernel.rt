@@ -1,6 +1,6 @@
 ghost use Rattle.std.specs.Prelude.{◌≡◌, List, [], ◌∷◌, ◌++◌, length, IfOk, IsTrue, ◌↔◌, Some, None};
 ghost use Rattle.kern_model.specs.declared.outcome.Outcome.{Outcome};
-ghost use Rattle.kern_model.specs.Table.{lowest_unused};
+ghost use Rattle.sp_base.specs.Table.{lowest_unused};
 ghost use Rattle.kern_model.specs.Act.{act};
 ghost use Rattle.kern_model.specs.Journal.{FitsPid, IsLegal, state_after, next_entry};
 ghost use Rattle.kern_model.specs.Needs.{FitsIns};

@@ -2,7 +2,7 @@ ghost use Rattle.std.specs.Prelude.{◌≡◌, ◌<◌, length, slice_get, IfSom
 ghost use Rattle.std.specs.List.{AllByRecursion};
 ghost use Rattle.sp_frames.specs.Grammar.{Fits};
 ghost use Rattle.kern_model.specs.Journal.{state_after};
-ghost use Rattle.kern_model.specs.Table.{at};
+ghost use Rattle.sp_base.specs.Table.{at};
 ghost use Rattle.sp_hub.specs.Connection.{process_in};
 ghost use Rattle.sp_hub.specs.Step.{StepsOrStays, answered, work_call, work_step};
 ghost use Rattle.sp_hub.specs.Verdict.{is_taken};

@@ -1,5 +1,5 @@
 ghost use Rattle.std.specs.Prelude.{◌≡◌, IfOk, OnErr, IsSome, None, Ok};
-ghost use Rattle.kern_model.specs.Table.{at};
+ghost use Rattle.sp_base.specs.Table.{at};
 ghost use Rattle.kern_model.specs.Act.{first, second, act, act_op, act_call};
 ghost use Rattle.kern_model.specs.Journal.{FitsPid};
 ghost use Rattle.kern_model.specs.Plain.{step_of};

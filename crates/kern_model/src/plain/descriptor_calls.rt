@@ -1,12 +1,12 @@
 ghost use Rattle.std.specs.Prelude.{◌≡◌, ℕ, ◌≤◌, IsSome, Some};
-ghost use Rattle.kern_model.specs.Table.{at, lowest_unused};
+ghost use Rattle.sp_base.specs.Table.{at, lowest_unused};
 ghost use Rattle.kern_model.specs.State.{rows_of, replace_file};
 ghost use Rattle.kern_model.specs.Descriptors.{act_close, act_dup, act_dup2, act_fcntl, act_duplicate_from, act_get_flag, act_set_flag, act_get_status, act_set_status, duplicate, flag_number, access_number, has_bit, status_number};
 
 use super::Plain;
 use crate::node::{Access, OpenFile, Row};
 use crate::outcome::Outcome;
-use crate::table;
+use sp_base::table;
 use sp_base::{Errno, Pid};
 
 /// Whether a bit of a word is set.

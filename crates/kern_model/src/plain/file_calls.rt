@@ -1,5 +1,5 @@
 ghost use Rattle.std.specs.Prelude.{◌≡◌, ℕ, ◌+◌, ◌^◌, ◌<◌, length, take, drop, IfOk, OnErr, IsSome, Some};
-ghost use Rattle.kern_model.specs.Table.{at};
+ghost use Rattle.sp_base.specs.Table.{at};
 ghost use Rattle.kern_model.specs.State.{bytes_in, bytes_of};
 ghost use Rattle.kern_model.specs.Outcome.{success};
 ghost use Rattle.kern_model.specs.Step.{piece_at};

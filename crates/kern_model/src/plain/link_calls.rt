@@ -1,7 +1,7 @@
 ghost use Rattle.std.specs.Prelude.{◌≡◌, [], length, count_by, is_some, IfOk, OnOk, OnErr, IsSome, Some};
 ghost use Rattle.std.specs.FinMap.{insert};
 ghost use Rattle.std.specs.List.{list_any};
-ghost use Rattle.kern_model.specs.Table.{at};
+ghost use Rattle.sp_base.specs.Table.{at};
 ghost use Rattle.kern_model.specs.State.{has_room, with_node, is_working_directory, is_directory_of, with_process, replace_directory};
 ghost use Rattle.kern_model.specs.Links.{act_link, act_unlink, act_mkdir, act_rmdir, act_chdir, without_name};
 

@@ -1,5 +1,5 @@
 ghost use Rattle.std.specs.Prelude.{◌≡◌, length, IfOk, OnErr, IsSome, Some};
-ghost use Rattle.kern_model.specs.Table.{at};
+ghost use Rattle.sp_base.specs.Table.{at};
 ghost use Rattle.kern_model.specs.State.{replace_bytes, with_bytes};
 ghost use Rattle.kern_model.specs.declared.node.Object.TheVariants as object;
 ghost use Rattle.kern_model.specs.Descriptors.{has_bit};
@@ -9,7 +9,7 @@ use super::Plain;
 use super::descriptor_calls::has_bit;
 use crate::node::{Access, Node, NodeKind, Object, OpenFile, Path, Row};
 use crate::outcome::Outcome;
-use crate::table;
+use sp_base::table;
 use crate::walk::Walked;
 use sp_base::{Errno, NoMemory, Octets, Pid};
 

@@ -1,11 +1,11 @@
 ghost use Rattle.std.specs.Prelude.{◌≡◌, ℕ, IfOk, OnErr, IsSome, Some};
-ghost use Rattle.kern_model.specs.Table.{at};
+ghost use Rattle.sp_base.specs.Table.{at};
 ghost use Rattle.kern_model.specs.Descriptors.{act_attach, act_fork, act_exec, act_exit, act_getpid};
 
 use super::{Plain, close_rows};
 use crate::descriptors::Descriptors;
 use crate::outcome::Outcome;
-use crate::table;
+use sp_base::table;
 use sp_base::{Errno, NoMemory, Pid};
 
 impl Plain {

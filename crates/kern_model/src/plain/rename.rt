@@ -1,5 +1,5 @@
 ghost use Rattle.std.specs.Prelude.{◌≡◌, IfOk, OnErr, IsSome, Some};
-ghost use Rattle.kern_model.specs.Table.{at};
+ghost use Rattle.sp_base.specs.Table.{at};
 ghost use Rattle.kern_model.specs.Links.{is_root, is_below, rename_to_missing, rename_over, rename_to_found, act_rename};
 
 use super::Plain;

@@ -1,5 +1,5 @@
 ghost use Rattle.std.specs.Prelude.{◌≡◌, IsSome, Some};
-ghost use Rattle.kern_model.specs.Table.{at};
+ghost use Rattle.sp_base.specs.Table.{at};
 ghost use Rattle.kern_model.specs.Files.{act_lseek, within, seek_sum, seek_base};
 
 use super::Plain;

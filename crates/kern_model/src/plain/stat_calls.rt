@@ -1,6 +1,6 @@
 ghost use Rattle.std.specs.Prelude.{◌≡◌, IfOk, OnErr, IsSome, Some};
 ghost use Rattle.std.specs.Int.{w32, to_le_bytes};
-ghost use Rattle.kern_model.specs.Table.{at};
+ghost use Rattle.sp_base.specs.Table.{at};
 ghost use Rattle.kern_model.specs.Files.{kind_number, link_count, stat_bytes, act_fstat, act_stat};
 
 use super::Plain;

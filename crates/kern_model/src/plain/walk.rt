@@ -1,6 +1,6 @@
 ghost use Rattle.std.specs.Prelude.{◌≡◌, IfOk, IsSome};
 ghost use Rattle.std.specs.FinMap.{get};
-ghost use Rattle.kern_model.specs.Table.{at};
+ghost use Rattle.sp_base.specs.Table.{at};
 ghost use Rattle.kern_model.specs.State.{kind_in, is_directory, is_socket, directory_of};
 ghost use Rattle.kern_model.specs.Walk.{found_at, last_at, walk_last, through, walk_from, walk};
 

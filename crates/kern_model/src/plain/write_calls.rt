@@ -1,5 +1,5 @@
 ghost use Rattle.std.specs.Prelude.{◌≡◌, IfOk, OnErr, IsSome, Some};
-ghost use Rattle.kern_model.specs.Table.{at};
+ghost use Rattle.sp_base.specs.Table.{at};
 ghost use Rattle.kern_model.specs.State.{total_size, kind_in};
 ghost use Rattle.kern_model.specs.Plain.{after_write};
 ghost use Rattle.kern_model.specs.Files.{is_above_total, is_file_kind, write_start, write_node, act_write, act_pwrite, act_ftruncate};

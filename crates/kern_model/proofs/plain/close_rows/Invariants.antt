@@ -1,6 +1,6 @@
 use Rattle.std.proofs.Common.{◌≡◌}
 use Rattle.std.specs.Prelude.{IsSome}
-use Rattle.kern_model.specs.Table.{at}
+use Rattle.sp_base.specs.Table.{at}
 use Rattle.kern_model.specs.State.{close_rows}
 use Rattle.kern_model.proofs.plain.close_rows.Given as goal
 

@@ -1,5 +1,5 @@
 use Rattle.std.proofs.Common.{◌≡◌, replicate, None}
-use Rattle.kern_model.proofs.table.blank.Given as goal
+use Rattle.sp_base.proofs.table.blank.Given as goal
 
 abbrev pub invariant-loop : goal.invariant-loop
 invariant-loop g l = l.table.items ≡ replicate l.counter None

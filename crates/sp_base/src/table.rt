@@ -1,7 +1,7 @@
 ghost use Rattle.std.specs.Prelude.{◌≡◌, ℕ, ◌<◌, length, replicate, slice_set, IfOk, IfSome, None};
-ghost use Rattle.kern_model.specs.Table.{at, lowest_unused};
+ghost use Rattle.sp_base.specs.Table.{at, lowest_unused};
 
-use sp_base::NoMemory;
+use crate::memory::NoMemory;
 use std::alloc::Global;
 
 /// A table with nothing at any number below `len`.

@@ -3,7 +3,7 @@ use Rattle.std.specs.Prelude.{slice_set, is_none, replicate}
 use Rattle.std.proofs.Common.{◌≡◌, ◌≢◌, ℕ, zero, suc, ◌+◌, ◌<◌, List, [], ◌∷◌, length, drop, get_or, Option, Some, None, refl, sym, ◌∙◌, arith, length-drop}
 use Rattle.std.specs.List.{position_from}
 use Rattle.std.proofs.lemmas.List.{get_or-drop, get_or-set_same, get_or-set_other}
-use Rattle.kern_model.specs.Table.{at, lowest_unused}
+use Rattle.sp_base.specs.Table.{at, lowest_unused}
 
 -- every other number keeps what it has
 pub at_other : {X : Type 0} (table : List (Option X)) (n : ℕ) (x : Option X) (q : ℕ) → q ≢ n → at (slice_set table n x) q ≡ at table q
