@@ -5,7 +5,7 @@ ghost use Rattle.kern_model.specs.declared.journal.Entry.{Entry};
 ghost use Rattle.kern_model.specs.Journal.{state_after};
 ghost use Rattle.sp_base.specs.Table.{at};
 ghost use Rattle.sp_hub.specs.Connection.{process_in};
-ghost use Rattle.sp_hub.specs.Step.{StepsOrStays, take_step, exit_of, close_step, end_step};
+ghost use Rattle.sp_hub.specs.Step.{StepsOrStays, end_takes, take_step, exit_of, close_step, end_step};
 
 use crate::connection::{Condition, Connection};
 use crate::event::{Finish, Reply};
@@ -53,7 +53,7 @@ pub fn exit(kernel: &mut Kernel, connection: &Connection) -> Result<(), NoMemory
 /// Closes a connection: its process exits, and its calls and frames are dropped.
 fn close(kernel: &mut Kernel, connection: &mut Connection) -> Reply
     requires live { IfSome (process_in connection.old.condition) (λ pid. IsSome (at (state_after kernel.old).processes pid.0)) }
-    ensures step { StepsOrStays (close_step kernel.old connection.old) kernel.old connection.old result kernel.new connection.new }
+    ensures step { StepsOrStays end_takes (close_step kernel.old connection.old) kernel.old connection.old result kernel.new connection.new }
     ensures fit { AllByRecursion Fits connection.old.queue → AllByRecursion Fits connection.new.queue }
 {
     if exit(kernel, connection).is_err() {
@@ -66,7 +66,7 @@ fn close(kernel: &mut Kernel, connection: &mut Connection) -> Reply
 /// A connection's input ends: at bytes that are no frame a live one drains; else the connection is over.
 pub fn end(kernel: &mut Kernel, connection: &mut Connection, finish: Finish) -> Reply
     requires live { IfSome (process_in connection.old.condition) (λ pid. IsSome (at (state_after kernel.old).processes pid.0)) }
-    ensures step { StepsOrStays (end_step kernel.old connection.old finish) kernel.old connection.old result kernel.new connection.new }
+    ensures step { StepsOrStays end_takes (end_step kernel.old connection.old finish) kernel.old connection.old result kernel.new connection.new }
     ensures fit { AllByRecursion Fits connection.old.queue → AllByRecursion Fits connection.new.queue }
 {
     match (connection.condition, finish) {

@@ -7,7 +7,7 @@ ghost use Rattle.kern_model.specs.declared.operation.Op.TheVariants as op;
 ghost use Rattle.kern_model.specs.Journal.{next_entry, state_after};
 ghost use Rattle.sp_base.specs.Table.{at};
 ghost use Rattle.sp_hub.specs.Connection.{process_in};
-ghost use Rattle.sp_hub.specs.Step.{StepsOrStays, attach_step, open_step, frame_step, hello, no_process, nothing_read};
+ghost use Rattle.sp_hub.specs.Step.{StepsOrStays, frame_takes, attach_step, open_step, frame_step, hello, no_process, nothing_read};
 
 use crate::connection::{Condition, Connection, OpenCall};
 use crate::event::Reply;
@@ -32,7 +32,7 @@ fn hello(number: ReqNo, pid: Pid) -> Frame
 
 /// Performs a handshake: makes the connection's process and queues the response.
 fn attach(kernel: &mut Kernel, connection: &mut Connection, frame: &Frame) -> Reply
-    ensures step { StepsOrStays (attach_step kernel.old connection.old frame.now (next_entry kernel.old no_process (Request connection.old.no frame.now.number) op.Attach nothing_read)) kernel.old connection.old result kernel.new connection.new }
+    ensures step { StepsOrStays frame_takes (attach_step kernel.old connection.old frame.now (next_entry kernel.old no_process (Request connection.old.no frame.now.number) op.Attach nothing_read)) kernel.old connection.old result kernel.new connection.new }
     ensures fit { AllByRecursion Fits connection.old.queue → AllByRecursion Fits connection.new.queue }
 {
     let number = frame.number;
@@ -62,7 +62,7 @@ fn attach(kernel: &mut Kernel, connection: &mut Connection, frame: &Frame) -> Re
 
 /// Opens a call, whatever the journal.
 fn open(connection: &mut Connection, frame: &Frame, call: Call) -> Reply
-    ensures step { (journal : List Entry) → StepsOrStays (open_step journal connection.old frame.now call) journal connection.old result journal connection.new }
+    ensures step { (journal : List Entry) → StepsOrStays frame_takes (open_step journal connection.old frame.now call) journal connection.old result journal connection.new }
     ensures queue { connection.new.queue ≡ connection.old.queue }
 {
     let number = frame.number;
@@ -78,7 +78,7 @@ fn open(connection: &mut Connection, frame: &Frame, call: Call) -> Reply
 /// A frame comes over a connection.
 pub fn frame(kernel: &mut Kernel, connection: &mut Connection, frame: &Frame) -> Reply
     requires live { IfSome (process_in connection.old.condition) (λ pid. IsSome (at (state_after kernel.old).processes pid.0)) }
-    ensures step { StepsOrStays (frame_step kernel.old connection.old frame.now) kernel.old connection.old result kernel.new connection.new }
+    ensures step { StepsOrStays frame_takes (frame_step kernel.old connection.old frame.now) kernel.old connection.old result kernel.new connection.new }
     ensures fit { AllByRecursion Fits connection.old.queue → AllByRecursion Fits connection.new.queue }
 {
     match verdict::on_frame(kernel, connection, frame) {

@@ -44,7 +44,7 @@ fn on_call(connection: &Connection, num: u32, words: &Words) -> Verdict
     };
     if !is_taken(&call) {
         Verdict::Malformed
-    } else if connection.condition.process().is_none() {
+    } else if !connection.condition.is_live() {
         Verdict::Refused(SpError::InExec)
     } else if connection.is_busy() {
         Verdict::Refused(SpError::TryAgain)

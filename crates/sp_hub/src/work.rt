@@ -4,7 +4,7 @@ ghost use Rattle.sp_frames.specs.Grammar.{Fits};
 ghost use Rattle.kern_model.specs.Journal.{state_after};
 ghost use Rattle.sp_base.specs.Table.{at};
 ghost use Rattle.sp_hub.specs.Connection.{process_in};
-ghost use Rattle.sp_hub.specs.Step.{StepsOrStays, answered, work_call, work_step};
+ghost use Rattle.sp_hub.specs.Step.{StepsOrStays, work_takes, answered, work_call, work_step};
 ghost use Rattle.sp_hub.specs.Verdict.{is_taken};
 
 use crate::connection::{Connection, OpenCall};
@@ -12,24 +12,8 @@ use crate::event::Reply;
 use crate::kernel::{Acted, Kernel};
 use crate::room::take_room;
 use kern_model::{Ins, Op, Who};
-use sp_base::{Answer, Call, Items, Pid, ReqNo};
+use sp_base::{Answer, Items, Pid, ReqNo};
 use sp_frames::{Body, Frame};
-
-/// The same call; the journal keeps it while the connection still has it.
-fn copy(call: &Call) -> Call
-    requires { IsTrue (is_taken call.now) }
-    ensures { result ≡ call.now }
-{
-    match call {
-        Call::Getpid => Call::Getpid,
-        Call::Close { fd } => Call::Close { fd: *fd },
-        Call::Unknown { num, words } => Call::Unknown {
-            num: *num,
-            words: words.copy(),
-        },
-        _ => unreachable!(),
-    }
-}
 
 /// The response of a call.
 fn response(number: ReqNo, answer: Answer) -> Frame
@@ -47,7 +31,7 @@ fn perform(kernel: &mut Kernel, connection: &mut Connection, place: usize, pid: 
     requires place { place < length connection.old.calls }
     requires live { IsSome (at (state_after kernel.old).processes pid.0) }
     requires taken { AllByRecursion (λ t. IsTrue (is_taken t.call)) connection.old.calls }
-    ensures step { StepsOrStays (work_call kernel.old connection.old place (slice_get connection.old.calls place) (Some pid)) kernel.old connection.old result kernel.new connection.new }
+    ensures step { StepsOrStays work_takes (work_call kernel.old connection.old place (slice_get connection.old.calls place) (Some pid)) kernel.old connection.old result kernel.new connection.new }
     ensures fit { AllByRecursion Fits connection.old.queue → AllByRecursion Fits connection.new.queue }
 {
     let alloc = kernel.alloc();
@@ -56,7 +40,7 @@ fn perform(kernel: &mut Kernel, connection: &mut Connection, place: usize, pid: 
     };
     let open = &connection.calls.slice()[place];
     let number = open.number;
-    let op = Op::Sys(copy(&open.call));
+    let op = Op::Sys(open.call.copy());
     let who = Who::Request(connection.no, number);
     match kernel.act(pid, who, op, Ins::Given(Items::none(alloc))) {
         Acted::Done(answer) => {
@@ -79,7 +63,7 @@ fn perform(kernel: &mut Kernel, connection: &mut Connection, place: usize, pid: 
 pub fn work(kernel: &mut Kernel, connection: &mut Connection, number: ReqNo) -> Reply
     requires live { IfSome (process_in connection.old.condition) (λ pid. IsSome (at (state_after kernel.old).processes pid.0)) }
     requires taken { AllByRecursion (λ t. IsTrue (is_taken t.call)) connection.old.calls }
-    ensures step { StepsOrStays (work_step kernel.old connection.old number) kernel.old connection.old result kernel.new connection.new }
+    ensures step { StepsOrStays work_takes (work_step kernel.old connection.old number) kernel.old connection.old result kernel.new connection.new }
     ensures fit { AllByRecursion Fits connection.old.queue → AllByRecursion Fits connection.new.queue }
 {
     let Some(place) = connection.place_of_call(number) else {

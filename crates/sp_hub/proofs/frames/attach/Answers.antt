@@ -1,9 +1,10 @@
-use Rattle.std.proofs.Common.{inl, refl, subst, sym, List, arith}
+use Rattle.std.proofs.Common.{inl, inr, refl, subst, sym, List, arith}
 use Rattle.std.specs.List.{AllByRecursion}
 use Rattle.sp_frames.specs.declared.frame.Frame.{Frame}
 use Rattle.sp_frames.specs.Grammar.{Fits}
 use Rattle.sp_hub.proofs.Lists.{all_push}
 use Rattle.sp_hub.proofs.Performs.{attach_pid, attached}
+use Rattle.sp_hub.proofs.Replies.{attach_takes}
 use Rattle.sp_hub.proofs.frames.attach.Goals as goal
 
 pub overflow_cast-pid : goal.overflow_cast-pid
@@ -22,3 +23,11 @@ pub returns-in-Done-clause-fit : goal.returns-in-Done-clause-fit
 returns-in-Done-clause-fit c h =
     let queue = rw c.in-Some.ensures at c.with.ensures in
     subst (λ (q : List Frame). AllByRecursion Fits q) (sym queue) (all_push Fits c.args.connection.now.queue c.hello.result h c.hello.ensures.fits)
+
+pub returns-in-NoMemory-clause-step : goal.returns-in-NoMemory-clause-step
+returns-in-NoMemory-clause-step c = inr (record {
+  takes_some = attach_takes c.args.kernel.now c.args.connection.now c.args.frame.now;
+  answers = refl;
+  keeps_journal = c.in-NoMemory.ensures.no_memory refl;
+  keeps_connection = rw (c.without-in-NoMemory.ensures, c.in-Some.ensures) refl;
+})
