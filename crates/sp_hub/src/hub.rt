@@ -12,8 +12,8 @@ ghost use Rattle.sp_hub.specs.Task.{IsLowest, open_calls};
 
 use crate::connection::Connection;
 use crate::event::{Event, Finish, Reply};
-use crate::kernel::Kernel;
 use crate::{ends, frames, tasks, work};
+use kern_calls::Kernel;
 use kern_model::Entry;
 use sp_base::{ConnNo, NoMemory, ReqNo};
 use sp_frames::Frame;
@@ -34,9 +34,9 @@ impl Model for Hub {
 
     ghost Value = { Machine };
 
-    ghost view = { λ h. machine_of h.kernel h.connections.items h.halted };
+    ghost view = { λ h. machine_of h.kernel.items h.connections.items h.halted };
 
-    ghost invariant = { λ h. IsSound (running h.kernel h.connections.items) };
+    ghost invariant = { λ h. IsSound (running h.kernel.items h.connections.items) };
 }
 
 /// Where a connection stands.
@@ -79,9 +79,9 @@ fn add(alloc: Global, connections: &mut Vec<Connection>, no: ConnNo) -> Result<(
 
 /// A connection opens.
 fn open_in(kernel: &Kernel, connections: &mut Vec<Connection>, no: ConnNo) -> Reply
-    requires sound { IsSound (running kernel.now connections.old.items) }
-    ensures plays { PlaysOrStays opened_takes (opened (running kernel.now connections.old.items) no) (running kernel.now connections.old.items) result (running kernel.now connections.new.items) }
-    ensures sound { IsSound (running kernel.now connections.new.items) }
+    requires sound { IsSound (running kernel.now.items connections.old.items) }
+    ensures plays { PlaysOrStays opened_takes (opened (running kernel.now.items connections.old.items) no) (running kernel.now.items connections.old.items) result (running kernel.now.items connections.new.items) }
+    ensures sound { IsSound (running kernel.now.items connections.new.items) }
 {
     if !is_above(connections, no) {
         return Reply::Closed;
@@ -99,9 +99,9 @@ fn frame_in(
     no: ConnNo,
     frame: &Frame,
 ) -> Reply
-    requires sound { IsSound (running kernel.old connections.old.items) }
-    ensures plays { PlaysOrStays frame_takes (on_connection (running kernel.old connections.old.items) no Reply.Closed (λ journal x. frame_step journal x frame.now)) (running kernel.old connections.old.items) result (running kernel.new connections.new.items) }
-    ensures sound { IsSound (running kernel.new connections.new.items) }
+    requires sound { IsSound (running kernel.old.items connections.old.items) }
+    ensures plays { PlaysOrStays frame_takes (on_connection (running kernel.old.items connections.old.items) no Reply.Closed (λ journal x. frame_step journal x frame.now)) (running kernel.old.items connections.old.items) result (running kernel.new.items connections.new.items) }
+    ensures sound { IsSound (running kernel.new.items connections.new.items) }
 {
     let Some(place) = place_of(connections, no) else {
         return Reply::Closed;
@@ -117,9 +117,9 @@ fn work_in(
     no: ConnNo,
     number: ReqNo,
 ) -> Reply
-    requires sound { IsSound (running kernel.old connections.old.items) }
-    ensures plays { PlaysOrStays work_takes (on_connection (running kernel.old connections.old.items) no Reply.Nothing (λ journal x. work_step journal x number)) (running kernel.old connections.old.items) result (running kernel.new connections.new.items) }
-    ensures sound { IsSound (running kernel.new connections.new.items) }
+    requires sound { IsSound (running kernel.old.items connections.old.items) }
+    ensures plays { PlaysOrStays work_takes (on_connection (running kernel.old.items connections.old.items) no Reply.Nothing (λ journal x. work_step journal x number)) (running kernel.old.items connections.old.items) result (running kernel.new.items connections.new.items) }
+    ensures sound { IsSound (running kernel.new.items connections.new.items) }
 {
     let Some(place) = place_of(connections, no) else {
         return Reply::Nothing;
@@ -135,9 +135,9 @@ fn end_in(
     no: ConnNo,
     finish: Finish,
 ) -> Reply
-    requires sound { IsSound (running kernel.old connections.old.items) }
-    ensures plays { PlaysOrStays end_takes (on_connection (running kernel.old connections.old.items) no Reply.Closed (λ journal x. end_step journal x finish)) (running kernel.old connections.old.items) result (running kernel.new connections.new.items) }
-    ensures sound { IsSound (running kernel.new connections.new.items) }
+    requires sound { IsSound (running kernel.old.items connections.old.items) }
+    ensures plays { PlaysOrStays end_takes (on_connection (running kernel.old.items connections.old.items) no Reply.Closed (λ journal x. end_step journal x finish)) (running kernel.old.items connections.old.items) result (running kernel.new.items connections.new.items) }
+    ensures sound { IsSound (running kernel.new.items connections.new.items) }
 {
     let Some(place) = place_of(connections, no) else {
         return Reply::Closed;

@@ -1,7 +1,9 @@
-use Rattle.std.proofs.Common.{inl, inr, refl, subst, sym, List, arith}
+use Rattle.std.proofs.Common.{inl, inr, ap, refl, subst, sym, List, arith}
 use Rattle.std.specs.List.{AllByRecursion}
 use Rattle.sp_frames.specs.declared.frame.Frame.{Frame}
 use Rattle.sp_frames.specs.Grammar.{Fits}
+use Rattle.sp_base.specs.Kept.{Room}
+use Rattle.kern_model.specs.declared.journal.Entry.{Entry}
 use Rattle.sp_hub.proofs.Lists.{all_push}
 use Rattle.sp_hub.proofs.Performs.{attach_pid, attached}
 use Rattle.sp_hub.proofs.Replies.{attach_takes}
@@ -10,14 +12,14 @@ use Rattle.sp_hub.proofs.frames.attach.Goals as goal
 pub overflow_cast-pid : goal.overflow_cast-pid
 overflow_cast-pid c =
     let does = rw c.none.ensures at (c.in-Done.ensures.done c.in-Done.answer refl) in
-    let below = attach_pid c.args.kernel.now c.act.new.self _ c.in-Done.answer does in
+    let below = attach_pid c.args.kernel.now.items c.act.new.kernel.items _ c.in-Done.answer does in
     omega arith
 
 pub returns-in-Done-clause-step : goal.returns-in-Done-clause-step
 returns-in-Done-clause-step c =
     let does = rw c.none.ensures at (c.in-Done.ensures.done c.in-Done.answer refl) in
     let queue = rw (c.in-Some.ensures, c.hello.ensures.frame) at c.with.ensures in
-    inl (attached c.args.kernel.now c.act.new.self c.args.connection.now c.args.frame.now _ c.in-Done.answer c.with.result does queue)
+    inl (attached c.args.kernel.now.items c.act.new.kernel.items c.args.connection.now c.args.frame.now _ c.in-Done.answer c.with.result does queue)
 
 pub returns-in-Done-clause-fit : goal.returns-in-Done-clause-fit
 returns-in-Done-clause-fit c h =
@@ -26,8 +28,8 @@ returns-in-Done-clause-fit c h =
 
 pub returns-in-NoMemory-clause-step : goal.returns-in-NoMemory-clause-step
 returns-in-NoMemory-clause-step c = inr (record {
-  takes_some = attach_takes c.args.kernel.now c.args.connection.now c.args.frame.now;
+  takes_some = attach_takes c.args.kernel.now.items c.args.connection.now c.args.frame.now;
   answers = refl;
-  keeps_journal = c.in-NoMemory.ensures.no_memory refl;
+  keeps_journal = ap (λ (r : Room Entry). r.items) (c.in-NoMemory.ensures.no_memory refl);
   keeps_connection = rw (c.without-in-NoMemory.ensures, c.in-Some.ensures) refl;
 })
