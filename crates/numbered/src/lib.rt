@@ -99,6 +99,7 @@ impl<T> Numbered<T> {
         requires { 0 < self.old.room }
         ensures adds { Adds self.old self.new result value }
         ensures room { self.new.room + 1 ≡ self.old.room }
+        ensures sound { IsBook self.new }
     {
         let number = self.next;
         let key = self.slots.insert_reserved(Item { number, value });
@@ -114,6 +115,7 @@ impl<T> Numbered<T> {
         T: Drop,
         ensures ok { IfOk result (λ key. Adds self.old self.new key value) }
         ensures room { OnOk result (self.new.room + 1 ≡ max self.old.room 1) }
+        ensures sound { OnOk result (IsBook self.new) }
         ensures err { OnErr result (self.new ≡ self.old) }
     {
         if self.reserve(1).is_err() {
