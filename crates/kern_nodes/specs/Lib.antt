@@ -1,0 +1,3 @@
+pub mod NodeTable
+pub mod Inode
+pub mod Write

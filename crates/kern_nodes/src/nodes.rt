@@ -1,0 +1,5 @@
+/// The nodes by number.
+#[derive(Drop)]
+pub struct Nodes {
+    bytes: u64,
+}
