@@ -1,3 +1,4 @@
 pub mod PutLaws
 pub mod ListedLaws
 pub mod CountLaws
+pub mod ChangeLaws
