@@ -1,6 +1,6 @@
 -- What the table is after each kind of change to the entries that it shows.
-use Rattle.std.proofs.Common.{◌≡◌, ℕ, ◌+◌, ◌-◌, ◌<◌, ◌≤◌, List, [], ◌∷◌, ◌++◌, length, get_or, set, Option, None, Some, IsSome, is_some, IsTrue, cond, nat_lt, ◌&&◌, ◌||◌, ◌^◌, refl, ap, sym, ◌∙◌, subst, arith}
-use borrow.Author.Tests.{ltb-true}
+use Rattle.std.proofs.Common.{◌≡◌, ℕ, ◌+◌, ◌-◌, ◌<◌, ◌≤◌, List, [], ◌∷◌, ◌++◌, length, get_or, set, Option, None, Some, IsSome, is_some, IsTrue, cond, false, nat_lt, ◌&&◌, ◌||◌, ◌^◌, refl, ap, sym, ◌∙◌, subst, arith}
+use borrow.Author.Tests.{ltb-true, ltb-false}
 use Rattle.std.proofs.lemmas.Bool.{and_parts}
 use Rattle.std.specs.List.{sum_by, count_by}
 use Rattle.std.specs.Map.{lookup}
@@ -8,7 +8,7 @@ use Rattle.std.specs.Ordering.{nat_cmp}
 use Rattle.std.specs.BTreeMap.{btree_map_len, is_at, IsUnchanged, IsEmpty}
 use Rattle.kern_model.specs.declared.node.NodeKind.{NodeKind}
 use Rattle.kern_model.specs.State.{bytes_in, replace_bytes, has_room}
-use Rattle.kern_model.specs.Files.{total_limit}
+use Rattle.kern_model.specs.Files.{total_limit, is_above_total}
 use Rattle.kern_nodes.specs.declared.inode.Inode.{Inode}
 use Rattle.kern_nodes.specs.NodeTable.{NodeTable, state_of, without_unkept, with_new, with_links, with_holders, with_node, links_of, holders_of}
 use Rattle.kern_nodes.specs.Inode.{Inodes, entry, listed, node_in, links_in, holders_in, size_in, table_of, IsCounted, Changes}
@@ -118,28 +118,6 @@ node_gone {old} {new} {last} {bytes} {table} number size shows live changes no_l
           (omega (arith, less, same)) (omega (arith, shows.counted.within));
     }
 
--- after a node got other bytes, with the sum that goes with them
-pub contents_set : {old new : Inodes} {last bytes : ℕ} {table : NodeTable} (edit : List ℕ → List ℕ) (number sum : ℕ) → Shows old last bytes table → IsSome (get_or table.nodes number None)
-    → ((inode : Inode) → entry old number ≡ Some inode → Changes old new number (Some (record inode { contents = edit inode.contents })))
-    → sum + length (contents_of table number) ≡ bytes + length (edit (contents_of table number)) → sum ≤ total_limit
-    → Shows new last sum (with_contents table number (edit (contents_of table number)))
-contents_set {old} {new} {last} {bytes} {table} edit number sum shows live changed sums within =
-    let found = live_entry number shows live in
-    let below = number_within old last bytes number found.0 shows.counted found.1 in
-    let changes = changed found.0 found.1 in
-    let other : Option Inode = Some (record found.0 { contents = edit found.0.contents }) in
-    let there : get_or table.nodes number None ≡ node_in (Some found.0) = node_at number shows ∙ ap node_in found.1 in
-    record {
-      view = same_table (table_of new last) (with_node (table_of old last) number (node_in other))
-          (listed_set node_in old new (last + 1) number other None (omega arith) changes)
-          (listed_kept links_in old new (last + 1) number other 0 changes (sym (ap links_in found.1)))
-          (listed_kept holders_in old new (last + 1) number other 0 changes (sym (ap holders_in found.1)))
-          ∙ ap (λ t. with_node t number (node_in other)) shows.view
-          ∙ ap (λ node. with_node table number (replace_bytes node (edit (bytes_in node)))) (sym there);
-      counted = counted_after old new last bytes sum number other shows.counted below changes
-          (ap (λ o. sum + size_in o) (sym (node_at number shows)) ∙ sums ∙ ap (λ o. bytes + length (edit (bytes_in o))) there) within;
-    }
-
 -- after an empty node with one link was added behind the last number
 pub node_added : {old new : Inodes} {last bytes : ℕ} {table : NodeTable} (kind : NodeKind) → Shows old last bytes table
     → Changes old new (last + 1) (Some (record { kind = kind; contents = []; links = 1; holders = 0 }))
@@ -166,6 +144,45 @@ count_nodes shows = ap (λ t. count_by is_some t.nodes) (sym shows.view) ∙ sho
 -- how many bytes all nodes have
 pub total_bytes : {inodes : Inodes} {last bytes : ℕ} {table : NodeTable} → Shows inodes last bytes table → sum_by size_in table.nodes ≡ bytes
 total_bytes shows = ap (λ t. sum_by size_in t.nodes) (sym shows.view) ∙ shows.counted.total
+
+-- no node has more bytes than all have
+pub contents_within : {inodes : Inodes} {last bytes : ℕ} {table : NodeTable} (number : ℕ) → Shows inodes last bytes table → IsSome (get_or table.nodes number None) → length (contents_of table number) ≤ bytes
+contents_within {inodes} {last} {bytes} {table} number shows live =
+    let found = live_entry number shows live in
+    let less = size_within inodes last bytes number shows.counted (number_within inodes last bytes number found.0 shows.counted found.1) in
+    omega (arith, less, ap size_in (node_at number shows))
+
+-- the sum with another length, where it isn't above the limit
+pub sum_within : {inodes : Inodes} {last bytes : ℕ} {table : NodeTable} (number len : ℕ) → Shows inodes last bytes table → is_above_total (state_of table) number len ≡ false → (bytes - length (contents_of table number)) + len ≤ total_limit
+sum_within {inodes} {last} {bytes} {table} number len shows allowed =
+    ltb-false total_limit ((bytes - length (contents_of table number)) + len)
+        (ap (λ n. nat_lt total_limit ((n - length (contents_of table number)) + len)) (sym (total_bytes shows)) ∙ allowed)
+
+-- after a node got other bytes, no more than so many that the limit of all allows, with the sum that goes with them
+pub contents_set : {old new : Inodes} {last bytes : ℕ} {table : NodeTable} (edit : List ℕ → List ℕ) (number sum most : ℕ) → Shows old last bytes table → IsSome (get_or table.nodes number None)
+    → ((inode : Inode) → entry old number ≡ Some inode → Changes old new number (Some (record inode { contents = edit inode.contents })))
+    → is_above_total (state_of table) number most ≡ false → length (edit (contents_of table number)) ≤ most → sum ≡ (bytes - length (contents_of table number)) + length (edit (contents_of table number))
+    → Shows new last sum (with_contents table number (edit (contents_of table number)))
+contents_set {old} {new} {last} {bytes} {table} edit number sum most shows live changed allowed fits sums =
+    let found = live_entry number shows live in
+    let below = number_within old last bytes number found.0 shows.counted found.1 in
+    let changes = changed found.0 found.1 in
+    let other : Option Inode = Some (record found.0 { contents = edit found.0.contents }) in
+    let there : get_or table.nodes number None ≡ node_in (Some found.0) = node_at number shows ∙ ap node_in found.1 in
+    let within = sum_within number most shows allowed in
+    let part = contents_within number shows live in
+    let after : sum + length (contents_of table number) ≡ bytes + length (edit (contents_of table number)) = omega (arith, part, sums) in
+    record {
+      view = same_table (table_of new last) (with_node (table_of old last) number (node_in other))
+          (listed_set node_in old new (last + 1) number other None (omega arith) changes)
+          (listed_kept links_in old new (last + 1) number other 0 changes (sym (ap links_in found.1)))
+          (listed_kept holders_in old new (last + 1) number other 0 changes (sym (ap holders_in found.1)))
+          ∙ ap (λ t. with_node t number (node_in other)) shows.view
+          ∙ ap (λ node. with_node table number (replace_bytes node (edit (bytes_in node)))) (sym there);
+      counted = counted_after old new last bytes sum number other shows.counted below changes
+          (ap (λ o. sum + size_in o) (sym (node_at number shows)) ∙ after ∙ ap (λ o. bytes + length (edit (bytes_in o))) there)
+          (omega (arith, within, fits, sums));
+    }
 
 -- there is room by the count of the entries and by the last number
 pub has_room_is : {inodes : Inodes} {last bytes : ℕ} {table : NodeTable} → Shows inodes last bytes table → has_room (state_of table) ≡ (nat_lt (btree_map_len inodes) 65536 && nat_lt (last + 1) (2 ^ 64))

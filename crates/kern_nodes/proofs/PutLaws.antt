@@ -1,5 +1,5 @@
 -- Bytes put over others.
-use Rattle.std.proofs.Common.{◌≡◌, ℕ, ◌+◌, ◌-◌, ◌<◌, ◌≤◌, List, [], ◌++◌, length, take, drop, replicate, arith, ap, sym, ◌∙◌, append_assoc, length-append}
+use Rattle.std.proofs.Common.{◌≡◌, ℕ, ◌+◌, ◌-◌, ◌<◌, ◌≤◌, List, [], ◌++◌, length, take, drop, replicate, arith, ap, sym, ◌∙◌, append_assoc, length-append, length-take, length-drop, max, min}
 use Rattle.std.proofs.lemmas.List.{length-replicate, replicate-append-replicate, take-append-le, take_all, drop_all}
 use Rattle.kern_model.specs.Files.{put_over, resized}
 
@@ -36,3 +36,15 @@ put_over_resized old new from short =
     ap (λ bytes. put_over bytes from new) (resized_filled old end (omega arith))
     ∙ ap (λ bytes. bytes ++ new ++ drop end grown) front
     ∙ ap (λ bytes. take from (old ++ replicate (from - length old) 0) ++ new ++ bytes) behind
+
+-- how long bytes are after others were put over them
+pub length-put_over : (old new : List ℕ) (from : ℕ) → length (put_over old from new) ≡ max (length old) (from + length new)
+length-put_over old new from =
+    let zeros : length {A = ℕ} (replicate (from - length old) 0) ≡ from - length old = length-replicate (from - length old) 0 in
+    simp (length-append, length-take, length-drop) (omega (arith, zeros))
+
+-- how long resized bytes are
+pub length-resized : (old : List ℕ) (len : ℕ) → length (resized old len) ≡ len
+length-resized old len =
+    let zeros : length {A = ℕ} (replicate (len - length old) 0) ≡ len - length old = length-replicate (len - length old) 0 in
+    simp (length-append, length-take) (omega (arith, zeros))

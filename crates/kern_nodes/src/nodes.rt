@@ -5,6 +5,8 @@ ghost use Rattle.kern_nodes.specs.NodeTable.{state_of, fresh_nodes, with_new, li
 ghost use Rattle.kern_nodes.specs.Inode.{node_in};
 ghost use Rattle.kern_nodes.specs.Write.{contents_of};
 
+mod bytes;
+
 use crate::NodeNo;
 use crate::inode::{self, Inode, Inodes};
 use kern_model::NodeKind;
