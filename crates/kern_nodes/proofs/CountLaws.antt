@@ -1,7 +1,6 @@
 -- The count of nodes and the sum of their lengths, when one entry changes.
-use Rattle.std.proofs.Common.{◌≡◌, ◌≢◌, ℕ, ◌+◌, ◌-◌, ◌<◌, ◌≤◌, List, [], ◌∷◌, ◌++◌, length, get_or, set, Option, None, Some, IsSome, is_some, Bool, cond, refl, ap, sym, ◌∙◌, subst, arith, ⊎_elim}
-use Rattle.std.specs.List.{sum_by, count_by}
-use Rattle.std.specs.BTreeMap.{btree_map_len}
+use Rattle.std.proofs.Common.{◌≡◌, ◌≢◌, ℕ, ◌+◌, ◌<◌, ◌≤◌, List, [], ◌∷◌, ◌++◌, length, get_or, set, Option, None, Some, IsSome, is_some, cond, refl, ap, sym, ◌∙◌, subst, arith, ⊎_elim}
+use Rattle.std.specs.List.{sum_by}
 use Rattle.std.proofs.lemmas.List.{get_or_past}
 use Rattle.std.proofs.lemmas.List.Sums.{sum_by-set, sum_by_push, get_or-le-sum_by}
 use Rattle.std.proofs.lemmas.Bool.{cases_lt, false≢true}

@@ -1,5 +1,5 @@
 -- Bytes put over others.
-use Rattle.std.proofs.Common.{◌≡◌, ℕ, ◌+◌, ◌-◌, ◌<◌, ◌≤◌, List, [], ◌++◌, length, take, drop, replicate, arith, ap, sym, ◌∙◌, append_assoc, length-append, length-take, length-drop, max, min}
+use Rattle.std.proofs.Common.{◌≡◌, ℕ, ◌+◌, ◌-◌, ◌<◌, ◌≤◌, List, ◌++◌, length, take, drop, replicate, arith, ap, sym, ◌∙◌, append_assoc, length-append, length-take, length-drop, max}
 use Rattle.std.proofs.lemmas.List.{length-replicate, replicate-append-replicate, take-append-le, take_all, drop_all}
 use Rattle.kern_model.specs.Files.{put_over, resized}
 

@@ -1,3 +1,4 @@
 pub mod NodeTable
 pub mod Inode
-pub mod Write
+pub mod TreeFault
+pub mod Bytes

@@ -1,5 +1,6 @@
 -- The nodes of a file system by number.
-use Rattle.std.specs.Prelude.{ℕ, ◌+◌, nat_lt, Bool, ◌||◌, List, [], ◌∷◌, ◌++◌, Option, None, Some, slice_index, slice_set, if◌then◌else◌}
+use Rattle.std.specs.Prelude.{◌≡◌, ℕ, nat_lt, Bool, ◌||◌, List, [], ◌∷◌, ◌++◌, Option, None, Some, slice_index, slice_set, length, if◌then◌else◌}
+use Rattle.sp_base.specs.Table.{at}
 use Rattle.kern_model.specs.declared.node.Node.{Node}
 use Rattle.kern_model.specs.declared.node.NodeKind.{NodeKind}
 use Rattle.kern_model.specs.State.{State, opening}
@@ -33,6 +34,13 @@ links_of table node = slice_index table.links node
 -- how many holders the node of a number has
 abbrev pub holders_of : NodeTable → ℕ → ℕ
 holders_of table node = slice_index table.holders node
+
+-- each number has a count of links and one of holders, and where there is no node both are 0
+pub record IsAligned (table : NodeTable) : Type 0 where
+  pub links : length table.links ≡ length table.nodes
+  pub holders : length table.holders ≡ length table.nodes
+  pub unlinked : (node : ℕ) → at table.nodes node ≡ None → links_of table node ≡ 0
+  pub unheld : (node : ℕ) → at table.nodes node ≡ None → holders_of table node ≡ 0
 
 -- the table with another count of links of a node
 abbrev pub with_links : NodeTable → ℕ → ℕ → NodeTable

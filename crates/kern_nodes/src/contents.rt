@@ -27,6 +27,15 @@ fn overwrite(items: &mut Vec<u8>, from: usize, bytes: &[u8])
     items[from..from + bytes.len()].copy_from_slice(bytes);
 }
 
+/// Cuts bytes to a length, or fills them up to it with zeros. An error leaves all as it was.
+fn set_len(items: &mut Vec<u8>, len: usize) -> Result<(), NoMemory>
+    ensures ok { OnOk result (items.new.items ≡ resized items.old.items len) }
+    ensures err { OnErr result (items.new.items ≡ items.old.items) }
+{
+    items.resize(len, 0)?;
+    Ok(())
+}
+
 impl Contents {
     /// No bytes; takes no memory.
     pub(crate) fn none(alloc: Global) -> Contents
@@ -66,19 +75,23 @@ impl Contents {
         ensures err { OnErr result (self.new ≡ self.old) }
     {
         let end = from + bytes.len();
-        if end > self.len() {
-            self.resize(end)?;
+        if end > self.items.len() {
+            set_len(&mut self.items, end)?;
         }
         overwrite(&mut self.items, from, bytes);
         Ok(())
     }
 
-    /// Cuts the bytes to a length, or fills them up to it with zeros. An error leaves all as it was.
+    /// Cuts the bytes to a length, or fills them up to it with zeros. Where less than a quarter of the
+    /// memory is then used, most of it is given back. An error leaves all as it was.
     pub(crate) fn resize(&mut self, len: usize) -> Result<(), NoMemory>
         ensures ok { OnOk result (self.new ≡ resized self.old len) }
         ensures err { OnErr result (self.new ≡ self.old) }
     {
-        self.items.resize(len, 0)?;
+        set_len(&mut self.items, len)?;
+        if self.items.capacity() / 4 > len {
+            self.items.shrink_to(len * 2);
+        }
         Ok(())
     }
 }

@@ -1,9 +1,9 @@
 ghost use Rattle.std.specs.Prelude.{◌≡◌, ◌+◌, ◌-◌, ◌^◌, ◌<◌, ◌↔◌, length, IsTrue, IsSome, Some, IfOk, OnOk, OnErr};
 ghost use Rattle.sp_base.specs.Table.{at};
 ghost use Rattle.kern_model.specs.State.{kind_in, is_directory, has_room};
-ghost use Rattle.kern_nodes.specs.NodeTable.{state_of, fresh_nodes, with_new, links_of, holders_of, with_links, with_holders, without_unkept};
+ghost use Rattle.kern_nodes.specs.NodeTable.{IsAligned, state_of, fresh_nodes, with_new, links_of, holders_of, with_links, with_holders, without_unkept};
 ghost use Rattle.kern_nodes.specs.Inode.{node_in};
-ghost use Rattle.kern_nodes.specs.Write.{contents_of};
+ghost use Rattle.kern_nodes.specs.Bytes.{contents_of};
 
 mod bytes;
 
@@ -103,9 +103,18 @@ impl Nodes {
         self.inode(node).links
     }
 
+    /// How many holders a node has.
+    pub fn holders(&self, node: NodeNo) -> u64
+        requires { IsSome (at self.now.nodes node.0) }
+        ensures { result ≡ holders_of self.now node.0 }
+    {
+        self.inode(node).holders
+    }
+
     /// Whether another node can be made.
     pub fn has_room(&self) -> bool
-        ensures { result ≡ has_room (state_of self.now) }
+        ensures room { result ≡ has_room (state_of self.now) }
+        ensures aligned { IsAligned self.now }
     {
         self.inodes.len() < NODE_LIMIT && self.last < u64::MAX
     }
@@ -179,7 +188,7 @@ impl Nodes {
         requires fits { holders_of self.old node.0 + 1 < 2 ^ 64 }
         ensures { self.new ≡ with_holders self.old node.0 (holders_of self.old node.0 + 1) }
     {
-        let holders = self.inode(node).holders + 1;
+        let holders = self.holders(node) + 1;
         self.set_holders(node, holders);
     }
 
@@ -189,7 +198,7 @@ impl Nodes {
         requires held { 0 < holders_of self.old node.0 }
         ensures { self.new ≡ without_unkept (with_holders self.old node.0 (holders_of self.old node.0 - 1)) node.0 }
     {
-        let holders = self.inode(node).holders - 1;
+        let holders = self.holders(node) - 1;
         self.set_holders(node, holders);
         self.drop_unkept(node);
     }

@@ -2,7 +2,8 @@ ghost use Rattle.std.specs.Prelude.{◌≡◌, ◌+◌, ◌<◌, ◌≤◌, leng
 ghost use Rattle.sp_base.specs.Table.{at};
 ghost use Rattle.kern_model.specs.Files.{bytes_from, file_limit, is_above_total, fitting, put_over, resized};
 ghost use Rattle.kern_nodes.specs.NodeTable.{state_of};
-ghost use Rattle.kern_nodes.specs.Write.{error_in, contents_of, with_contents, write_error, written, cut_error};
+ghost use Rattle.kern_nodes.specs.TreeFault.{error_in};
+ghost use Rattle.kern_nodes.specs.Bytes.{contents_of, with_contents, write_error, written, cut_error};
 
 use super::Nodes;
 use crate::inode;

@@ -1,6 +1,6 @@
 use Rattle.std.proofs.Common.{◌≡◌, rules, arith, sym, ◌∙◌}
 use Rattle.kern_nodes.specs.NodeTable.{links_of, holders_of}
-use Rattle.kern_nodes.proofs.ChangeLaws.{Shows, node_gone, not_kept}
+use Rattle.kern_nodes.proofs.ChangeLaws.{node_gone, not_kept}
 use Rattle.kern_nodes.proofs.nodes.Nodes.drop_unkept.Goals as goal
 
 pub invariant_of-self : goal.invariant_of-self

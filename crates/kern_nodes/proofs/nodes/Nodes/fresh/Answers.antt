@@ -1,8 +1,8 @@
-use Rattle.std.proofs.Common.{rules, arith, sym, ap, ◌∙◌, refl}
+use Rattle.std.proofs.Common.{ap, ◌∙◌}
 use Rattle.kern_model.specs.State.{has_room}
 use Rattle.kern_nodes.specs.NodeTable.{state_of, with_new}
 use Rattle.kern_model.specs.declared.node.NodeKind.TheVariants.{Directory}
-use Rattle.kern_nodes.proofs.ChangeLaws.{Shows, no_nodes}
+use Rattle.kern_nodes.proofs.ShowLaws.{no_nodes}
 use Rattle.kern_nodes.proofs.nodes.Nodes.fresh.Goals as goal
 
 pub invariant_of-nodes : goal.invariant_of-nodes

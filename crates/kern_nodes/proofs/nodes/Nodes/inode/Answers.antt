@@ -1,7 +1,7 @@
 use Rattle.std.proofs.Common.{◌≡◌, None, Some, rules, arith, sym, ap, ◌∙◌}
 use Rattle.std.proofs.lemmas.Grind.{common_steps}
 use Rattle.kern_nodes.specs.Inode.{entry, node_in, links_in, holders_in}
-use Rattle.kern_nodes.proofs.ChangeLaws.{Shows, live_entry, node_at, links_at, holders_at}
+use Rattle.kern_nodes.proofs.ShowLaws.{live_entry, node_at, links_at, holders_at}
 use Rattle.kern_nodes.proofs.nodes.Nodes.inode.Goals as goal
 
 pub unreachable-requires : goal.unreachable-requires

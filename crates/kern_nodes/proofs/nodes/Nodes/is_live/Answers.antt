@@ -1,5 +1,5 @@
 use Rattle.std.proofs.Common.{◌≡◌, None, is_some, get_or, sym, ◌∙◌}
-use Rattle.kern_nodes.proofs.ChangeLaws.{Shows, is_live_is}
+use Rattle.kern_nodes.proofs.ShowLaws.{is_live_is}
 use Rattle.kern_nodes.proofs.nodes.Nodes.is_live.Goals as goal
 
 pub returns : goal.returns

@@ -1,6 +1,7 @@
-use Rattle.std.proofs.Common.{rules, arith, sym, ◌^◌, ◌<◌, ◌+◌}
+use Rattle.std.proofs.Common.{arith, sym, ◌^◌, ◌<◌, ◌+◌}
 use Rattle.std.proofs.lemmas.Result.{err_from_is_err_and}
-use Rattle.kern_nodes.proofs.ChangeLaws.{Shows, unchanged, node_added, length_nodes, next_fits}
+use Rattle.kern_nodes.proofs.ShowLaws.{length_nodes, next_fits}
+use Rattle.kern_nodes.proofs.ChangeLaws.{unchanged, node_added}
 use Rattle.kern_nodes.proofs.nodes.Nodes.make.Goals as goal
 
 pub overflow_add-number : goal.overflow_add-number

@@ -1,9 +1,10 @@
 use Rattle.std.proofs.Common.{◌≡◌, ℕ, ◌+◌, ◌-◌, List, length, max, IsSome, arith, refl, sym, subst}
 use Rattle.std.proofs.lemmas.Result.{err_from_is_err_and}
 use Rattle.kern_model.specs.Files.{put_over}
-use Rattle.kern_nodes.specs.Write.{contents_of}
+use Rattle.kern_nodes.specs.Bytes.{contents_of}
 use Rattle.kern_nodes.proofs.PutLaws.{length-put_over}
-use Rattle.kern_nodes.proofs.ChangeLaws.{Shows, live_entry, unchanged, contents_set}
+use Rattle.kern_nodes.proofs.ShowLaws.{live_entry}
+use Rattle.kern_nodes.proofs.ChangeLaws.{unchanged, contents_set}
 use Rattle.kern_nodes.proofs.nodes.Nodes.put.Goals as goal
 
 pub put-requires-clause-live : goal.put-requires-clause-live

@@ -1,7 +1,6 @@
-use Rattle.std.proofs.Common.{None, Some, IsSome, subst, sym, refl}
-use Rattle.kern_nodes.specs.NodeTable.{with_holders}
-use Rattle.kern_nodes.specs.Inode.{entry}
-use Rattle.kern_nodes.proofs.ChangeLaws.{Shows, live_entry, holders_set}
+use Rattle.std.proofs.Common.{IsSome, subst, sym, refl}
+use Rattle.kern_nodes.proofs.ShowLaws.{live_entry}
+use Rattle.kern_nodes.proofs.ChangeLaws.{holders_set}
 use Rattle.kern_nodes.proofs.nodes.Nodes.set_holders.Goals as goal
 
 pub set_holders-requires : goal.set_holders-requires

@@ -1,7 +1,6 @@
-use Rattle.std.proofs.Common.{None, Some, IsSome, subst, sym, refl}
-use Rattle.kern_nodes.specs.NodeTable.{with_links}
-use Rattle.kern_nodes.specs.Inode.{entry}
-use Rattle.kern_nodes.proofs.ChangeLaws.{Shows, live_entry, links_set}
+use Rattle.std.proofs.Common.{IsSome, subst, sym, refl}
+use Rattle.kern_nodes.proofs.ShowLaws.{live_entry}
+use Rattle.kern_nodes.proofs.ChangeLaws.{links_set}
 use Rattle.kern_nodes.proofs.nodes.Nodes.set_links.Goals as goal
 
 pub set_links-requires : goal.set_links-requires

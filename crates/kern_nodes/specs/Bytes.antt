@@ -1,23 +1,11 @@
 -- What a write to a node and a cut of it do: the first case that applies, in the order written.
-use Rattle.std.specs.Prelude.{ℕ, ◌+◌, ◌==◌, nat_lt, nat_le, List, length, max, Option, None, Some, Result, Ok, Err, if◌then◌else◌}
+use Rattle.std.specs.Prelude.{ℕ, ◌+◌, ◌==◌, nat_lt, nat_le, List, length, max, Option, None, Some, if◌then◌else◌}
 use Rattle.sp_base.specs.declared.errno.Errno.{Errno}
 use Rattle.sp_base.specs.declared.errno.Errno.TheVariants.{Enospc, Efbig}
 use Rattle.sp_base.specs.Table.{at}
 use Rattle.kern_model.specs.State.{bytes_of, replace_bytes}
-use Rattle.kern_model.specs.Files.{file_limit, is_above_total, fitting, put_over, resized}
-use Rattle.kern_nodes.specs.declared.fault.TreeFault.{TreeFault}
-use Rattle.kern_nodes.specs.declared.fault.TreeFault.TheVariants as fault
+use Rattle.kern_model.specs.Files.{file_limit, is_above_total, fitting, put_over}
 use Rattle.kern_nodes.specs.NodeTable.{NodeTable, state_of, with_node}
-
--- the error number of a fault, none for want of memory
-abbrev pub errno_of : TreeFault → Option Errno
-errno_of (fault.Errno error) = Some error
-errno_of fault.NoMemory = None
-
--- the error number that a result carries, none for a success and for want of memory
-abbrev pub error_in : {T : Type 0} → Result T TreeFault → Option Errno
-error_in (Ok _) = None
-error_in (Err cause) = errno_of cause
 
 -- the bytes of the node of a number
 abbrev pub contents_of : NodeTable → ℕ → List ℕ
