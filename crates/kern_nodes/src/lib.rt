@@ -5,6 +5,8 @@ mod contents;
 mod fault;
 mod inode;
 mod nodes;
+#[cfg(test)]
+mod tests;
 
 pub use fault::TreeFault;
 pub use nodes::Nodes;
