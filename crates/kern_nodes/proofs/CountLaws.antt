@@ -15,7 +15,7 @@ pub at_any : {X : Type 0} (f : Option Inode → X) (inodes : Inodes) (last bytes
 at_any f inodes last bytes number counted =
     ⊎_elim
     (λ behind. get_or_past (listed f inodes (last + 1)) number (f None) (omega (arith, length-listed f inodes (last + 1)))
-        ∙ ap f (sym (counted.last_of_all number behind)))
+    ∙ ap f (sym (counted.last_of_all number behind)))
     (λ within. at_listed f inodes (last + 1) number (f None) (omega arith))
     (cases_lt last number)
 
@@ -56,16 +56,16 @@ counted_after old new last bytes sum number inode counted below changes sums wit
     let inside : number < length before = omega (arith, length-listed node_in old (last + 1)) in
     let there : get_or before number None ≡ node_in (entry old number) = at_any node_in old last bytes number counted in
     let after : listed node_in new (last + 1) ≡ set before number (node_in inode) =
-        listed_set node_in old new (last + 1) number inode None (omega arith) changes in
+    listed_set node_in old new (last + 1) number inode None (omega arith) changes in
     let counts : sum_by one (listed node_in new (last + 1)) + one_in (entry old number) ≡ sum_by one before + one_in inode =
-        ap (λ nodes. sum_by one nodes + one_in (entry old number)) after
-        ∙ ap (λ n. sum_by one (set before number (node_in inode)) + n) (sym (ap one there ∙ one_node (entry old number)))
-        ∙ sum_by-set one before number (node_in inode) None inside
-        ∙ ap (λ n. sum_by one before + n) (one_node inode) in
+    ap (λ nodes. sum_by one nodes + one_in (entry old number)) after
+    ∙ ap (λ n. sum_by one (set before number (node_in inode)) + n) (sym (ap one there ∙ one_node (entry old number)))
+    ∙ sum_by-set one before number (node_in inode) None inside
+    ∙ ap (λ n. sum_by one before + n) (one_node inode) in
     let totals : sum_by size_in (listed node_in new (last + 1)) + size_in (node_in (entry old number)) ≡ sum_by size_in before + size_in (node_in inode) =
-        ap (λ nodes. sum_by size_in nodes + size_in (node_in (entry old number))) after
-        ∙ ap (λ n. sum_by size_in (set before number (node_in inode)) + n) (sym (ap size_in there))
-        ∙ sum_by-set size_in before number (node_in inode) None inside in
+    ap (λ nodes. sum_by size_in nodes + size_in (node_in (entry old number))) after
+    ∙ ap (λ n. sum_by size_in (set before number (node_in inode)) + n) (sym (ap size_in there))
+    ∙ sum_by-set size_in before number (node_in inode) None inside in
     record {
       last_of_all = λ n behind. let apart : n ≢ number = omega arith in changes.others n apart ∙ counted.last_of_all n behind;
       count = omega (arith, counts, changes.count, counted.count);
@@ -78,7 +78,7 @@ pub listed_added : {X : Type 0} (f : Option Inode → X) (old new : Inodes) (las
 listed_added f old new last inode d changes =
     listed_more f new (last + 1)
     ∙ ap (λ xs. xs ++ f (entry new (last + 1)) ∷ [])
-        (listed_same f old new (last + 1) d (λ n below. let apart : n ≢ last + 1 = omega arith in ap f (changes.others n apart)))
+    (listed_same f old new (last + 1) d (λ n below. let apart : n ≢ last + 1 = omega arith in ap f (changes.others n apart)))
     ∙ ap (λ x. listed f old (last + 1) ++ x ∷ []) (ap f changes.here)
 
 -- the counts after an empty node was added
@@ -89,9 +89,9 @@ counted_more old new last bytes inode counted changes empty =
     let after = listed_added node_in old new last (Some inode) None changes in
     let was : entry old (last + 1) ≡ None = counted.last_of_all (last + 1) (omega arith) in
     let counts : sum_by one (listed node_in new ((last + 1) + 1)) ≡ sum_by one before + 1 =
-        ap (sum_by one) after ∙ sum_by_push one before (node_in (Some inode)) in
+    ap (sum_by one) after ∙ sum_by_push one before (node_in (Some inode)) in
     let totals : sum_by size_in (listed node_in new ((last + 1) + 1)) ≡ sum_by size_in before + length inode.contents =
-        ap (sum_by size_in) after ∙ sum_by_push size_in before (node_in (Some inode)) in
+    ap (sum_by size_in) after ∙ sum_by_push size_in before (node_in (Some inode)) in
     record {
       last_of_all = λ n behind. let apart : n ≢ last + 1 = omega arith in
           let further : last < n = omega arith in

@@ -26,7 +26,7 @@ pub listed_same : {X : Type 0} (f : Option Inode → X) (old new : Inodes) (end 
 listed_same f old new end d same =
     ext_get_or d (listed f new end) (listed f old end) (length-listed f new end ∙ sym (length-listed f old end))
     (λ i below. let within : i < end = omega (arith, length-listed f new end) in
-        at_listed f new end i d within ∙ same i within ∙ sym (at_listed f old end i d within))
+    at_listed f new end i d within ∙ same i within ∙ sym (at_listed f old end i d within))
 
 -- the list with another entry is set there
 pub listed_set : {X : Type 0} (f : Option Inode → X) (old new : Inodes) (end number : ℕ) (inode : Option Inode) (d : X) → number < end → Changes old new number inode → listed f new end ≡ set (listed f old end) number (f inode)
@@ -34,21 +34,21 @@ listed_set f old new end number inode d below changes =
     ext_get_or d (listed f new end) (set (listed f old end) number (f inode))
     (length-listed f new end ∙ sym (length-listed f old end) ∙ sym (length-set (listed f old end) number (f inode)))
     (λ i before. let within : i < end = omega (arith, length-listed f new end) in
-        let inside : number < length (listed f old end) = omega (arith, length-listed f old end) in
-        at_listed f new end i d within ∙
-        ⊎_elim
-        (λ same. ap (λ n. f (entry new n)) same ∙ ap f changes.here
-            ∙ sym (get_or-set_same (listed f old end) number (f inode) d inside)
-            ∙ ap (λ n. get_or (set (listed f old end) number (f inode)) n d) (sym same))
-        (λ apart. ap f (changes.others i apart) ∙ sym (at_listed f old end i d within)
-            ∙ sym (get_or-set_other (listed f old end) number i (f inode) d apart))
-        (cases_eq i number))
+    let inside : number < length (listed f old end) = omega (arith, length-listed f old end) in
+    at_listed f new end i d within ∙
+    ⊎_elim
+    (λ same. ap (λ n. f (entry new n)) same ∙ ap f changes.here
+    ∙ sym (get_or-set_same (listed f old end) number (f inode) d inside)
+    ∙ ap (λ n. get_or (set (listed f old end) number (f inode)) n d) (sym same))
+    (λ apart. ap f (changes.others i apart) ∙ sym (at_listed f old end i d within)
+    ∙ sym (get_or-set_other (listed f old end) number i (f inode) d apart))
+    (cases_eq i number))
 
 -- the list stays where the function gives the same of the other entry
 pub listed_kept : {X : Type 0} (f : Option Inode → X) (old new : Inodes) (end number : ℕ) (inode : Option Inode) (d : X) → Changes old new number inode → f inode ≡ f (entry old number) → listed f new end ≡ listed f old end
 listed_kept f old new end number inode d changes same =
     listed_same f old new end d (λ n below.
-        ⊎_elim
-        (λ here. ap (λ m. f (entry new m)) here ∙ ap f changes.here ∙ same ∙ ap (λ m. f (entry old m)) (sym here))
-        (λ apart. ap f (changes.others n apart))
-        (cases_eq n number))
+    ⊎_elim
+    (λ here. ap (λ m. f (entry new m)) here ∙ ap f changes.here ∙ same ∙ ap (λ m. f (entry old m)) (sym here))
+    (λ apart. ap f (changes.others n apart))
+    (cases_eq n number))

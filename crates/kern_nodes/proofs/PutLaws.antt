@@ -29,9 +29,9 @@ put_over_resized old new from short =
     let more : (from - length old) + ((end - length old) - (from - length old)) ≡ end - length old = omega arith in
     let enough : from ≤ length old + (from - length old) = omega arith in
     let front : take from (grown ++ replicate (from - length grown) 0) ≡ take from (old ++ replicate (from - length old) 0) =
-        take-append-le from grown (replicate (from - length grown) 0) longer
-        ∙ ap (λ n. take from (old ++ replicate n 0)) (sym more)
-        ∙ take_filled old from (from - length old) ((end - length old) - (from - length old)) enough in
+    take-append-le from grown (replicate (from - length grown) 0) longer
+    ∙ ap (λ n. take from (old ++ replicate n 0)) (sym more)
+    ∙ take_filled old from (from - length old) ((end - length old) - (from - length old)) enough in
     let behind : drop end grown ≡ drop end old = drop_all end grown (omega arith) ∙ sym (drop_all end old (omega arith)) in
     ap (λ bytes. put_over bytes from new) (resized_filled old end (omega arith))
     ∙ ap (λ bytes. bytes ++ new ++ drop end grown) front

@@ -81,7 +81,7 @@ contents_within {inodes} {last} {bytes} {table} number shows live =
 pub sum_within : {inodes : Inodes} {last bytes : ℕ} {table : NodeTable} (number len : ℕ) → Shows inodes last bytes table → is_above_total (state_of table) number len ≡ false → (bytes - length (contents_of table number)) + len ≤ total_limit
 sum_within {inodes} {last} {bytes} {table} number len shows allowed =
     ltb-false total_limit ((bytes - length (contents_of table number)) + len)
-        (ap (λ n. nat_lt total_limit ((n - length (contents_of table number)) + len)) (sym (total_bytes shows)) ∙ allowed)
+    (ap (λ n. nat_lt total_limit ((n - length (contents_of table number)) + len)) (sym (total_bytes shows)) ∙ allowed)
 
 -- no entries show a table without nodes
 pub no_nodes : (inodes : Inodes) → IsEmpty inodes → Shows inodes 0 0 (record { nodes = None ∷ []; links = 0 ∷ []; holders = 0 ∷ [] })

@@ -6,8 +6,7 @@ ghost use Rattle.kern_nodes.specs.TreeFault.{error_in};
 ghost use Rattle.kern_nodes.specs.Bytes.{contents_of, with_contents, write_error, written, cut_error};
 
 use super::Nodes;
-use crate::inode;
-use crate::{NodeNo, TreeFault};
+use crate::{NodeNo, TreeFault, inode};
 use sp_base::{Errno, NoMemory, Octets};
 use std::alloc::Global;
 
@@ -22,7 +21,13 @@ const TOTAL_LIMIT: u64 = 268_435_456;
 
 impl Nodes {
     /// A copy of the bytes of a node from an offset on: at most so many, and at most 65,536.
-    pub fn read_at(&self, alloc: Global, node: NodeNo, from: u64, max: u64) -> Result<Octets, NoMemory>
+    pub fn read_at(
+        &self,
+        alloc: Global,
+        node: NodeNo,
+        from: u64,
+        max: u64,
+    ) -> Result<Octets, NoMemory>
         requires { IsSome (at self.now.nodes node.0) }
         ensures { IfOk result (λ bytes. bytes ≡ bytes_from (state_of self.now) node.0 from max) }
     {
