@@ -15,13 +15,17 @@ contents_of table node = bytes_of (state_of table) node
 abbrev pub with_contents : NodeTable → ℕ → List ℕ → NodeTable
 with_contents table node bytes = with_node table node (replace_bytes (at table.nodes node) bytes)
 
+-- how long a node is after a write from a start on
+abbrev pub length_after : NodeTable → ℕ → ℕ → List ℕ → ℕ
+length_after table node start bytes = max (length (contents_of table node)) (start + length (fitting start bytes))
+
 -- the error of a write to a node from a start on: none where there is nothing to write; at a start of 16 MiB or more EFBIG;
--- ENOSPC where all files would be above 256 MiB with the bytes that fit below 16 MiB
+-- where all files would be above 256 MiB ENOSPC
 abbrev pub write_error : NodeTable → ℕ → ℕ → List ℕ → Option Errno
 write_error table node start bytes =
     if length bytes == 0 then None
     else if nat_le file_limit start then Some Efbig
-    else if is_above_total (state_of table) node (max (length (contents_of table node)) (start + length (fitting start bytes))) then Some Enospc
+    else if is_above_total (state_of table) node (length_after table node start bytes) then Some Enospc
     else None
 
 -- the table after a write: the bytes that fit are put over those of the node; where there is nothing to write, the same
@@ -30,7 +34,7 @@ written table node start bytes =
     if length bytes == 0 then table
     else with_contents table node (put_over (contents_of table node) start (fitting start bytes))
 
--- the error of a cut of a node to a length: above 16 MiB EFBIG; ENOSPC where all files would be above 256 MiB
+-- the error of a cut of a node to a length: above 16 MiB EFBIG; where all files would be above 256 MiB ENOSPC
 abbrev pub cut_error : NodeTable → ℕ → ℕ → Option Errno
 cut_error table node len =
     if nat_lt file_limit len then Some Efbig

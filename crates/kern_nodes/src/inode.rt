@@ -67,7 +67,8 @@ pub(crate) fn put(
 }
 
 #[tactic(auto, using(std::proofs::lemmas::Map::Steps::set_value_same))]
-/// Cuts the bytes of a node to a length, or fills them up to it with zeros. An error leaves all as it was.
+/// Cuts the bytes of a node to a length, or fills them up to it with zeros. An error leaves all as it
+/// was.
 pub(crate) fn resize(inodes: &mut Inodes, number: u64, len: usize) -> Result<(), NoMemory>
     requires { IsSome (entry inodes.old number) }
     ensures ok { OnOk result ((inode : InodeOf) → entry inodes.old number ≡ Some inode → Changes

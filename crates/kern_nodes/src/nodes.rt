@@ -22,7 +22,9 @@ const NODE_LIMIT: usize = 65_536;
 #[derive(Drop)]
 pub struct Nodes {
     inodes: Inodes,
+    /// The number of the node made last.
     last: u64,
+    /// How many bytes all nodes have together.
     bytes: u64,
 }
 
@@ -38,7 +40,7 @@ impl Model for Nodes {
 }
 
 impl Nodes {
-    /// The root directory alone, with one link.
+    /// The root directory alone, with one link. The only error is want of memory.
     pub fn fresh(alloc: Global) -> Result<Nodes, NoMemory>
         ensures { IfOk result (λ nodes. nodes ≡ fresh_nodes) }
     {
@@ -111,7 +113,7 @@ impl Nodes {
         self.inode(node).holders
     }
 
-    /// Whether another node can be made.
+    /// Whether another node can be made: there are fewer than 65,536, and the number 2^64 - 1 wasn't given.
     pub fn has_room(&self) -> bool
         ensures room { result ≡ has_room (state_of self.now) }
         ensures aligned { IsAligned self.now }
@@ -119,7 +121,8 @@ impl Nodes {
         self.inodes.len() < NODE_LIMIT && self.last < u64::MAX
     }
 
-    /// Makes an empty node with one link and no holder. An error leaves all as it was.
+    /// Makes an empty node with one link and no holder, and answers its number. Want of memory leaves all
+    /// as it was.
     pub fn make(&mut self, alloc: Global, kind: NodeKind) -> Result<NodeNo, NoMemory>
         requires { IsTrue (has_room (state_of self.old)) }
         ensures number { IfOk result (λ node. node.0 ≡ length self.old.nodes) }
@@ -175,7 +178,8 @@ impl Nodes {
     pub fn drop_link(&mut self, node: NodeNo)
         requires live { IsSome (at self.old.nodes node.0) }
         requires linked { 0 < links_of self.old node.0 }
-        ensures { self.new ≡ without_unkept (with_links self.old node.0 (links_of self.old node.0 - 1)) node.0 }
+        ensures { self.new
+            ≡ without_unkept (with_links self.old node.0 (links_of self.old node.0 - 1)) node.0 }
     {
         let links = self.links(node) - 1;
         self.set_links(node, links);
@@ -196,7 +200,8 @@ impl Nodes {
     pub fn release(&mut self, node: NodeNo)
         requires live { IsSome (at self.old.nodes node.0) }
         requires held { 0 < holders_of self.old node.0 }
-        ensures { self.new ≡ without_unkept (with_holders self.old node.0 (holders_of self.old node.0 - 1)) node.0 }
+        ensures { self.new
+            ≡ without_unkept (with_holders self.old node.0 (holders_of self.old node.0 - 1)) node.0 }
     {
         let holders = self.holders(node) - 1;
         self.set_holders(node, holders);

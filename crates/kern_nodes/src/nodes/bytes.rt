@@ -20,7 +20,8 @@ const FILE_LIMIT: u64 = 16_777_216;
 const TOTAL_LIMIT: u64 = 268_435_456;
 
 impl Nodes {
-    /// A copy of the bytes of a node from an offset on: at most so many, and at most 65,536.
+    /// A copy of the bytes of a node from an offset on: at most so many, and at most 65,536. The only
+    /// error is want of memory.
     pub fn read_at(
         &self,
         alloc: Global,
@@ -61,7 +62,8 @@ impl Nodes {
         Ok(())
     }
 
-    /// Cuts the bytes of a node to a length, or fills them up to it with zeros. An error leaves all as it was.
+    /// Cuts the bytes of a node to a length, or fills them up to it with zeros. An error leaves all as it
+    /// was.
     fn resize(&mut self, node: NodeNo, len: u64) -> Result<(), NoMemory>
         requires live { IsSome (at self.old.nodes node.0) }
         requires within { is_above_total (state_of self.old) node.0
@@ -76,9 +78,9 @@ impl Nodes {
         Ok(())
     }
 
-    /// Writes to a node from an offset on, a gap filled with zeros, and answers how many bytes were written: those
-    /// that fit below 16 MiB. EFBIG at an offset of 16 MiB or more, ENOSPC where all files together would be above
-    /// 256 MiB; where there is nothing to write neither comes. An error leaves all as it was.
+    /// Writes the bytes that fit below 16 MiB to a node from an offset on, and answers how many these are;
+    /// a gap before them is zeros. EFBIG at an offset of 16 MiB or more, ENOSPC where all files together
+    /// would be above 256 MiB; where there is nothing to write, neither comes. An error leaves all as it was.
     pub fn write_at(&mut self, node: NodeNo, from: u64, bytes: &[u8]) -> Result<u32, TreeFault>
         requires { IsSome (at self.old.nodes node.0) }
         ensures error { error_in result ≡ write_error self.old node.0 from bytes.now }
@@ -102,8 +104,8 @@ impl Nodes {
         Ok(count as u32)
     }
 
-    /// Cuts a node to a length, or fills it up to it with zeros. EFBIG above 16 MiB, ENOSPC where all files together
-    /// would be above 256 MiB. An error leaves all as it was.
+    /// Cuts a node to a length, or fills it up to it with zeros. EFBIG above 16 MiB, ENOSPC where all
+    /// files together would be above 256 MiB. An error leaves all as it was.
     pub fn cut(&mut self, node: NodeNo, len: u64) -> Result<(), TreeFault>
         requires { IsSome (at self.old.nodes node.0) }
         ensures error { error_in result ≡ cut_error self.old node.0 len }
