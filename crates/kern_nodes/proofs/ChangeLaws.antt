@@ -9,7 +9,7 @@ use Rattle.kern_model.specs.State.{bytes_in, replace_bytes}
 use Rattle.kern_model.specs.Files.{is_above_total}
 use Rattle.kern_nodes.specs.declared.inode.Inode.{Inode}
 use Rattle.kern_nodes.specs.NodeTable.{NodeTable, state_of, without_unkept, with_new, with_links, with_holders, with_node, links_of, holders_of}
-use Rattle.kern_nodes.specs.Inode.{Inodes, entry, listed, node_in, links_in, holders_in, size_in, table_of, Changes}
+use Rattle.kern_nodes.specs.Inode.{Inodes, entry, listed, node_in, links_in, holders_in, size_in, table_of, Changes, ChangesBy}
 use Rattle.kern_nodes.specs.Bytes.{with_contents, contents_of}
 use Rattle.kern_nodes.proofs.ListedLaws.{listed_set, listed_kept, listed_same}
 use Rattle.kern_nodes.proofs.CountLaws.{number_within, size_within, counted_after, listed_added, counted_more}
@@ -34,7 +34,7 @@ unchanged {old} {new} {last} {bytes} {table} shows same =
 
 -- after a node's count of links was set
 pub links_set : {old new : Inodes} {last bytes : ℕ} {table : NodeTable} (number links : ℕ) → Shows old last bytes table → IsSome (get_or table.nodes number None)
-    → ((inode : Inode) → entry old number ≡ Some inode → Changes old new number (Some (record inode { links = links })))
+    → ChangesBy (λ inode. record inode { links = links }) old new number
     → Shows new last bytes (with_links table number links)
 links_set {old} {new} {last} {bytes} {table} number links shows live changed =
     let found = live_entry number shows live in
@@ -53,7 +53,7 @@ links_set {old} {new} {last} {bytes} {table} number links shows live changed =
 
 -- after a node's count of holders was set
 pub holders_set : {old new : Inodes} {last bytes : ℕ} {table : NodeTable} (number holders : ℕ) → Shows old last bytes table → IsSome (get_or table.nodes number None)
-    → ((inode : Inode) → entry old number ≡ Some inode → Changes old new number (Some (record inode { holders = holders })))
+    → ChangesBy (λ inode. record inode { holders = holders }) old new number
     → Shows new last bytes (with_holders table number holders)
 holders_set {old} {new} {last} {bytes} {table} number holders shows live changed =
     let found = live_entry number shows live in
@@ -72,7 +72,7 @@ holders_set {old} {new} {last} {bytes} {table} number holders shows live changed
 
 -- after a node got other bytes, no more than so many that the limit of all allows, with the sum that goes with them
 pub contents_set : {old new : Inodes} {last bytes : ℕ} {table : NodeTable} (edit : List ℕ → List ℕ) (number sum most : ℕ) → Shows old last bytes table → IsSome (get_or table.nodes number None)
-    → ((inode : Inode) → entry old number ≡ Some inode → Changes old new number (Some (record inode { contents = edit inode.contents })))
+    → ChangesBy (λ inode. record inode { contents = edit inode.contents }) old new number
     → is_above_total (state_of table) number most ≡ false → length (edit (contents_of table number)) ≤ most → sum ≡ (bytes - length (contents_of table number)) + length (edit (contents_of table number))
     → Shows new last sum (with_contents table number (edit (contents_of table number)))
 contents_set {old} {new} {last} {bytes} {table} edit number sum most shows live changed allowed fits sums =

@@ -65,3 +65,7 @@ pub record Changes (old new : Inodes) (number : ℕ) (inode : Option Inode) : Ty
   pub here : entry new number ≡ inode
   pub others : (other : ℕ) → other ≢ number → entry new other ≡ entry old other
   pub count : btree_map_len new + one_in (entry old number) ≡ btree_map_len old + one_in inode
+
+-- the entry of a number, where there is one, is changed by a function, and all others are as before
+abbrev pub ChangesBy : (Inode → Inode) → Inodes → Inodes → ℕ → Type 0
+ChangesBy f old new number = (inode : Inode) → entry old number ≡ Some inode → Changes old new number (Some (f inode))

@@ -1,8 +1,7 @@
 ghost use Rattle.std.specs.Prelude.{◌≡◌, ◌+◌, ◌^◌, ◌<◌, [], length, OnOk, OnErr, IsSome, Some, None};
 ghost use Rattle.std.specs.BTreeMap.{IsUnchanged};
 ghost use Rattle.kern_model.specs.Files.{put_over, resized};
-ghost use Rattle.kern_nodes.specs.Inode.{entry, Changes};
-ghost use Rattle.kern_nodes.specs.declared.inode.Inode.{Inode as InodeOf};
+ghost use Rattle.kern_nodes.specs.Inode.{entry, Changes, ChangesBy};
 
 use crate::contents::Contents;
 use kern_model::NodeKind;
@@ -25,8 +24,7 @@ pub(crate) struct Inode {
 /// Sets the count of links of a node.
 pub(crate) fn set_links(inodes: &mut Inodes, number: u64, links: u32)
     requires { IsSome (entry inodes.old number) }
-    ensures { (inode : InodeOf) → entry inodes.old number ≡ Some inode
-        → Changes inodes.old inodes.new number (Some (record inode { links = links })) }
+    ensures { ChangesBy (λ inode. record inode { links = links }) inodes.old inodes.new number }
 {
     match inodes.get_mut(&number) {
         Some(inode) => inode.links = links,
@@ -37,8 +35,7 @@ pub(crate) fn set_links(inodes: &mut Inodes, number: u64, links: u32)
 /// Sets the count of holders of a node.
 pub(crate) fn set_holders(inodes: &mut Inodes, number: u64, holders: u64)
     requires { IsSome (entry inodes.old number) }
-    ensures { (inode : InodeOf) → entry inodes.old number ≡ Some inode
-        → Changes inodes.old inodes.new number (Some (record inode { holders = holders })) }
+    ensures { ChangesBy (λ inode. record inode { holders = holders }) inodes.old inodes.new number }
 {
     match inodes.get_mut(&number) {
         Some(inode) => inode.holders = holders,
@@ -56,8 +53,8 @@ pub(crate) fn put(
 ) -> Result<(), NoMemory>
     requires live { IsSome (entry inodes.old number) }
     requires fits { from + length bytes.now < 2 ^ 64 }
-    ensures ok { OnOk result ((inode : InodeOf) → entry inodes.old number ≡ Some inode → Changes
-        inodes.old inodes.new number (Some (record inode { contents = put_over inode.contents from bytes.now }))) }
+    ensures ok { OnOk result (ChangesBy (λ inode. record inode { contents = put_over inode.contents from bytes.now })
+        inodes.old inodes.new number) }
     ensures err { OnErr result (IsUnchanged inodes.old inodes.new) }
 {
     match inodes.get_mut(&number) {
@@ -71,8 +68,8 @@ pub(crate) fn put(
 /// was.
 pub(crate) fn resize(inodes: &mut Inodes, number: u64, len: usize) -> Result<(), NoMemory>
     requires { IsSome (entry inodes.old number) }
-    ensures ok { OnOk result ((inode : InodeOf) → entry inodes.old number ≡ Some inode → Changes
-        inodes.old inodes.new number (Some (record inode { contents = resized inode.contents len }))) }
+    ensures ok { OnOk result (ChangesBy (λ inode. record inode { contents = resized inode.contents len })
+        inodes.old inodes.new number) }
     ensures err { OnErr result (IsUnchanged inodes.old inodes.new) }
 {
     match inodes.get_mut(&number) {
