@@ -1,0 +1,5 @@
+pub mod ListingLaws
+pub mod ShownLaws
+pub mod AddedLaws
+pub mod RemovedLaws
+pub mod MovedLaws

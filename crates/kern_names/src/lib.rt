@@ -1,0 +1,7 @@
+//! The tree of directories: which node stands under which path.
+#![tactic(auto)]
+
+mod directories;
+mod listing;
+
+pub use directories::Directories;
