@@ -3,3 +3,4 @@ pub mod ShownLaws
 pub mod AddedLaws
 pub mod RemovedLaws
 pub mod MovedLaws
+pub mod EntriesLaws

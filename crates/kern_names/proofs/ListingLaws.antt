@@ -1,5 +1,5 @@
 -- What becomes of a map's entries becomes of the names that they stand for.
-use Rattle.std.specs.Prelude.{map, if◌then◌else◌}
+use Rattle.std.specs.Prelude.{map, IsSome}
 use Rattle.std.proofs.Common.{◌≡◌, ◌≢◌, cond, ℕ, Bool, true, false, List, [], ◌∷◌, Option, Some, None, refl, sym, ap, subst, ◌∙◌}
 use Rattle.std.proofs.lemmas.Bool.{true≢false}
 use Rattle.std.proofs.lemmas.Cmp.{eq_by_cmp_equiv}
@@ -10,7 +10,7 @@ use Rattle.std.specs.declared.cmp.Ordering.{Ordering}
 use Rattle.std.specs.declared.cmp.Ordering.TheVariants.{Less, Equal, Greater}
 use Rattle.std.specs.FinMap.{IsAntisymmetric, nat_cmp-IsAntisymmetric, slice_cmp-IsAntisymmetric, same_map, get, insert, remove, empty, find, put, get-empty, get-insert, get-remove, get-from_entries, from_entries}
 use Rattle.std.specs.FinMap.Entries.{find-put}
-use Rattle.std.specs.Map.{lookup, remove_entry}
+use Rattle.std.specs.Map.{lookup, remove_entry, set_value}
 use Rattle.std.specs.BTreeMap.{insert_entry, is_at}
 use Rattle.kern_names.specs.Listing.{Listed, listed}
 
@@ -19,6 +19,14 @@ name_cmp = slice_cmp nat_cmp
 
 pub exact_names : IsAntisymmetric name_cmp
 exact_names = slice_cmp-IsAntisymmetric nat_cmp-IsAntisymmetric
+
+equal_from : (r : Ordering) → is_eq r ≡ true → r ≡ Equal
+equal_from Less e = absurd (true≢false (sym e))
+equal_from Equal e = refl
+equal_from Greater e = absurd (true≢false (sym e))
+
+pub same_name : (a b : List ℕ) → eq_by_cmp name_cmp a b ≡ true → a ≡ b
+same_name a b t = exact_names a b (equal_from (name_cmp a b) t)
 
 module _ {K : Type 0} (spelling : K → List ℕ) where
   abbrev spelled : List (K × ℕ) → List (List ℕ × ℕ)
@@ -50,14 +58,6 @@ module _ {K : Type 0} (spelling : K → List ℕ) where
       ∙ ap (cond (eq_by_cmp name_cmp q (spelling k)) (Some node)) (sym (get-from_entries nat_list_cmp_total (spelled old) q))
       ∙ sym (get-insert nat_list_cmp_total (listed spelling old) (spelling k) node q))
 
-  equal_from : (r : Ordering) → is_eq r ≡ true → r ≡ Equal
-  equal_from Less e = absurd (true≢false (sym e))
-  equal_from Equal e = refl
-  equal_from Greater e = absurd (true≢false (sym e))
-
-  same_name : (a b : List ℕ) → eq_by_cmp name_cmp a b ≡ true → a ≡ b
-  same_name a b t = exact_names a b (equal_from (name_cmp a b) t)
-
   -- another name is found as before
   other_stays : (name q : List ℕ) → eq_by_cmp name_cmp q name ≡ false → (es : List (K × ℕ)) → find name_cmp q (spelled (remove_entry (λ k. is_eq (name_cmp name (spelling k))) es)) ≡ find name_cmp q (spelled es)
   other_stays name q ne [] = refl
@@ -88,3 +88,38 @@ module _ {K : Type 0} (spelling : K → List ℕ) where
     where
       itself : (a : List ℕ) → eq_by_cmp name_cmp a a ≡ true
       itself a = (eq_by_cmp_equiv nat_list_cmp_total).refl a
+
+  -- a name that is there has another node
+  replaced_in : (name : List ℕ) (node : ℕ) (q : List ℕ) (es : List (K × ℕ)) → IsSome (lookup (λ k. is_eq (name_cmp name (spelling k))) es)
+      → find name_cmp q (spelled (set_value (λ k. is_eq (name_cmp name (spelling k))) es node)) ≡ cond (eq_by_cmp name_cmp q name) (Some node) (find name_cmp q (spelled es))
+  replaced_in name node q [] h = absurd cc
+  replaced_in name node q (e ∷ es) h =
+      elim (is_eq (name_cmp name (spelling e.0))) as (λ b. is_eq (name_cmp name (spelling e.0)) ≡ b → IsSome (cond b (Some e.1) (lookup (λ k. is_eq (name_cmp name (spelling k))) es))
+          → find name_cmp q (spelled (cond b ((e.0, node) ∷ es) (e ∷ set_value (λ k. is_eq (name_cmp name (spelling k))) es node))) ≡ cond (eq_by_cmp name_cmp q name) (Some node) (find name_cmp q (spelled (e ∷ es)))) [
+        | true ↦ λ t h. subst (λ (n : List ℕ). find name_cmp q (spelled ((e.0, node) ∷ es)) ≡ cond (eq_by_cmp name_cmp q n) (Some node) (find name_cmp q (spelled (e ∷ es)))) (sym (same_name name (spelling e.0) t))
+            (shadowed (eq_by_cmp name_cmp q (spelling e.0)) (Some node) (Some e.1) _)
+        | false ↦ λ t h. ap (cond (eq_by_cmp name_cmp q (spelling e.0)) (Some e.1)) (replaced_in name node q es h)
+            ∙ swapped (spelling e.0) name q t (Some e.1) (Some node) _
+      ] refl h
+    where
+      shadowed : (b : Bool) (x y z : Option ℕ) → cond b x z ≡ cond b x (cond b y z)
+      shadowed true x y z = refl
+      shadowed false x y z = refl
+
+      swapped : (a b q : List ℕ) → is_eq (name_cmp b a) ≡ false → (x y z : Option ℕ) → cond (eq_by_cmp name_cmp q a) x (cond (eq_by_cmp name_cmp q b) y z) ≡ cond (eq_by_cmp name_cmp q b) y (cond (eq_by_cmp name_cmp q a) x z)
+      swapped a b q ne x y z =
+          elim (eq_by_cmp name_cmp q a) as (λ s. eq_by_cmp name_cmp q a ≡ s → cond s x (cond (eq_by_cmp name_cmp q b) y z) ≡ cond (eq_by_cmp name_cmp q b) y (cond s x z)) [
+            | false ↦ λ t. refl
+            | true ↦ λ t. elim (eq_by_cmp name_cmp q b) as (λ u. eq_by_cmp name_cmp q b ≡ u → x ≡ cond u y x) [
+              | false ↦ λ u. refl
+              | true ↦ λ u. absurd (true≢false (sym (subst (λ (n : List ℕ). eq_by_cmp name_cmp n a ≡ true) (same_name q b u) t) ∙ ne))
+            ] refl
+          ] refl
+
+  pub replace_is : (old new : List (K × ℕ)) (name : List ℕ) (node : ℕ) → IsSome (get (listed spelling old) name) → new ≡ set_value (λ k. is_eq (name_cmp name (spelling k))) old node → listed spelling new ≡ insert (listed spelling old) name node
+  replace_is old new name node there is = same_map nat_list_cmp_total exact_names _ _ (λ q.
+      get-from_entries nat_list_cmp_total (spelled new) q
+      ∙ ap (λ (l : List (K × ℕ)). find name_cmp q (spelled l)) is
+      ∙ replaced_in name node q old (subst (λ (o : Option ℕ). IsSome o) (sym (found_is old name)) there)
+      ∙ ap (cond (eq_by_cmp name_cmp q name) (Some node)) (sym (get-from_entries nat_list_cmp_total (spelled old) q))
+      ∙ sym (get-insert nat_list_cmp_total (listed spelling old) name node q))

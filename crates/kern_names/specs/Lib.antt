@@ -2,3 +2,4 @@ pub mod Listing
 pub mod Tree
 pub mod Edges
 pub mod Shown
+pub mod Changes

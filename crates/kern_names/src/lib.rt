@@ -2,6 +2,7 @@
 #![tactic(auto)]
 
 mod directories;
+mod entries;
 mod listing;
 
 pub use directories::Directories;

@@ -1,4 +1,4 @@
-ghost use Rattle.std.specs.Prelude.{◌≡◌, ◌↔◌, List, ℕ, None, IsTrue, OnOk, OnErr};
+ghost use Rattle.std.specs.Prelude.{◌≡◌, ◌↔◌, List, ℕ, None, IsSome, IsTrue, OnOk, OnErr};
 ghost use Rattle.std.specs.FinMap.{get, insert, remove, empty};
 
 use sp_base::NoMemory;
@@ -53,6 +53,17 @@ impl Listing {
     {
         self.entries.insert(name, node)?;
         Ok(())
+    }
+
+    /// Gives a name that is there another node. Takes no memory.
+    pub fn replace(&mut self, name: &[u8], node: u64)
+        requires { IsSome (get self.old name.now) }
+        ensures { self.new ≡ insert self.old name.now node }
+    {
+        match self.entries.get_mut(name) {
+            Some(place) => *place = node,
+            None => unreachable!(),
+        }
     }
 
     /// Takes a name away, if it is there.
