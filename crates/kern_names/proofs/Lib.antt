@@ -4,3 +4,4 @@ pub mod AddedLaws
 pub mod RemovedLaws
 pub mod MovedLaws
 pub mod EntriesLaws
+pub mod InsideLaws

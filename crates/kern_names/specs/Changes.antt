@@ -56,3 +56,13 @@ pub record MovesName (old new : BTreeMap ℕ Directory) (from : ℕ) (old_name :
   pub come : edges_of new to new_name ≡ Some node
   pub kept : (d : ℕ) (c : List ℕ) → ((d ≡ from) × (c ≡ old_name) → ⊥) → ((d ≡ to) × (c ≡ new_name) → ⊥) → edges_of new d c ≡ edges_of old d c
   pub parents : SetsParent old new node to
+
+-- a node has the name of another one in place of the one that it had, and the other is no directory
+pub record ReplacesName (old new : BTreeMap ℕ Directory) (from : ℕ) (old_name : List ℕ) (to : ℕ) (new_name : List ℕ) (node replaced : ℕ) : Type 0 where
+  pub gone : edges_of new from old_name ≡ None
+  pub come : edges_of new to new_name ≡ Some node
+  pub kept : (d : ℕ) (c : List ℕ) → ((d ≡ from) × (c ≡ old_name) → ⊥) → ((d ≡ to) × (c ≡ new_name) → ⊥) → edges_of new d c ≡ edges_of old d c
+  pub dropped : parents_of new replaced ≡ None
+  pub plain : parents_of old node ≡ None → parents_of new node ≡ None
+  pub moved : IsSome (parents_of old node) → parents_of new node ≡ Some to
+  pub others : (n : ℕ) → n ≢ node → n ≢ replaced → parents_of new n ≡ parents_of old n

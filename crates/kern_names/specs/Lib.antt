@@ -3,3 +3,4 @@ pub mod Tree
 pub mod Edges
 pub mod Shown
 pub mod Changes
+pub mod Requests

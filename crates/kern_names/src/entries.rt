@@ -1,6 +1,6 @@
-ghost use Rattle.std.specs.Prelude.{◌≡◌, ℕ, List, None, Some, IsSome, OnOk, OnErr};
+ghost use Rattle.std.specs.Prelude.{◌≡◌, ◌≢◌, ℕ, List, None, Some, IsSome, OnOk, OnErr};
 ghost use Rattle.kern_names.specs.Edges.{edges_of, parents_of};
-ghost use Rattle.kern_names.specs.Changes.{Keeps, KeepsNames, SetsName, SetsParent, MakesDirectory, DropsDirectory, AddsName, RemovesName, MovesName};
+ghost use Rattle.kern_names.specs.Changes.{Keeps, KeepsNames, SetsName, SetsParent, MakesDirectory, DropsDirectory, AddsName, RemovesName, MovesName, ReplacesName};
 
 use crate::directories::Directory;
 use crate::listing::Listing;
@@ -169,13 +169,17 @@ pub(crate) fn replace(
     to: u64,
     new_name: &[u8],
     node: u64,
+    replaced: u64,
 )
     requires there { IsSome (edges_of directories.old from old_name.now) }
     requires taken { IsSome (edges_of directories.old to new_name.now) }
     requires apart { (from ≡ to) × (old_name.now ≡ new_name.now) → ⊥ }
-    ensures { MovesName directories.old directories.new from old_name.now to new_name.now node }
+    requires bare { (c : List ℕ) → edges_of directories.old replaced c ≡ None }
+    requires two { node ≢ replaced }
+    ensures { ReplacesName directories.old directories.new from old_name.now to new_name.now node replaced }
 {
     set(directories, to, new_name, node);
     take(directories, from, old_name);
     set_parent(directories, node, to);
+    unmake(directories, replaced);
 }
