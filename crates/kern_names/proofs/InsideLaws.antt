@@ -52,7 +52,7 @@ beside_fewer s n m ne = set.contains-remove nat_cmp_total s n m ∙ ap (λ b. no
 
 -- ---- one map of directories
 
-abbrev Directories : Type 0
+abbrev pub Directories : Type 0
 Directories = tree.BTreeMap ℕ Directory
 
 abbrev pub ShowsOf : Directories → Tree → Type 0

@@ -5,3 +5,4 @@ pub mod RemovedLaws
 pub mod MovedLaws
 pub mod EntriesLaws
 pub mod InsideLaws
+pub mod InsideMoves
