@@ -4,6 +4,9 @@ use Rattle.std.proofs.Common.{◌≡◌, ◌≢◌, ℕ, Bool, true, false, ◌|
 use Rattle.std.proofs.lemmas.Bool.{cases_eq, false_from_ne_true, true≢false}
 use Rattle.std.proofs.lemmas.Cmp.{eq_by_cmp_equiv}
 use Rattle.std.specs.Option.{option_map}
+use Rattle.std.specs.Prelude.{Result, OnOk, OnErr}
+use Rattle.std.specs.declared.result.Result.TheVariants.{Ok, Err}
+use Rattle.kern_names.specs.Shown.{one_tree}
 use Rattle.std.specs.Ordering.{nat_cmp, is_eq, eq_by_cmp}
 use Rattle.std.specs.declared.cmp.Ordering.{Ordering}
 use Rattle.std.specs.declared.cmp.Ordering.TheVariants.{Less, Equal, Greater}
@@ -67,6 +70,24 @@ kept_tree old new keeps is = subst (λ (x : Edges × Parents). IsTree x.0 x.1) (
 
 pub kept_shows : (old new : Directories) → Keeps old new → (t : Tree) → ShowsOf old t → ShowsOf new t
 kept_shows old new keeps t shows = subst (λ (x : Edges × Parents). Shows x.0 x.1 t) (λ i. ((λ d c. name_in (sym (keeps d) i) c), (λ d. option_map (λ x. x.parent) (sym (keeps d) i)))) shows
+
+-- what a map stands for is what it shows
+pub seen : (directories : Directories) (u : Shown (edges_of directories) (parents_of directories)) (t : Tree) → ShowsOf directories t → u.0 ≡ t
+seen directories u t shows = one_tree (edges_of directories) (parents_of directories) u.0 t u.1 shows
+
+-- ---- after an answer
+
+pub either_way : {V E : Type 0} {A B X : Type 0} (r : Result V E) → OnOk r A → OnErr r B → (A → X) → (B → X) → X
+either_way (Ok v) a b f g = f a
+either_way (Err e) a b f g = g b
+
+pub on_ok : {V E : Type 0} {A B : Type 0} (r : Result V E) → (A → B) → OnOk r A → OnOk r B
+on_ok (Ok v) f a = f a
+on_ok (Err e) f a = a
+
+pub on_err : {V E : Type 0} {A B : Type 0} (r : Result V E) → (A → B) → OnErr r A → OnErr r B
+on_err (Ok v) f a = a
+on_err (Err e) f a = f a
 
 some_is : (o : Option ℕ) → is_some o ≡ false → o ≡ None
 some_is None e = refl
