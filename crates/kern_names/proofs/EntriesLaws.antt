@@ -10,7 +10,8 @@ use Rattle.std.specs.FinMap.{get, insert, remove, empty, get-insert, get-remove,
 use Rattle.kern_names.specs.declared.directories.Directory.{Directory}
 use Rattle.kern_names.specs.Listing.{Listed}
 use Rattle.kern_names.specs.Edges.{name_in, edges_of, parents_of}
-use Rattle.kern_names.specs.Changes.{Keeps, SetsName, MakesDirectory, DropsDirectory}
+use Rattle.kern_names.specs.Changes.{IsRootAlone, Keeps, SetsName, MakesDirectory, DropsDirectory}
+use Rattle.kern_model.specs.State.{root}
 use Rattle.kern_names.proofs.ListingLaws.{name_cmp, same_name}
 
 same_test : (name : List ℕ) → eq_by_cmp name_cmp name name ≡ true
@@ -76,3 +77,15 @@ undone old made failed new node missing others kept dropped n = elim (cases_eq n
   | inl e ↦ ap (tree.get nat_cmp new) e ∙ dropped.here ∙ sym (ap (tree.get nat_cmp old) e ∙ not_there _ missing)
   | inr ne ↦ dropped.others n ne ∙ kept n ∙ others n ne
 ]
+
+-- a map of the root alone
+pub makes_root : (new : tree.BTreeMap ℕ Directory) (made : Directory) → tree.get nat_cmp new root ≡ Some made → ((n : ℕ) → n ≢ root → tree.get nat_cmp new n ≡ None)
+    → made.entries ≡ empty → made.parent ≡ root → IsRootAlone new
+makes_root new made is others none top = record {
+  names = λ d c. elim (cases_eq d root) [
+    | inl e ↦ ap (λ (n : ℕ). edges_of new n c) e ∙ ap (λ o. name_in o c) is ∙ ap (λ (l : Listed). get l c) none ∙ get-empty name_cmp c
+    | inr ne ↦ ap (λ o. name_in o c) (others d ne)
+  ];
+  top = ap (λ o. option_map (λ d. d.parent) o) is ∙ ap (λ (n : ℕ). Some n) top;
+  others = λ n ne. ap (λ o. option_map (λ d. d.parent) o) (others n ne);
+}

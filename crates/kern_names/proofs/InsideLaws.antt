@@ -75,6 +75,10 @@ kept_shows old new keeps t shows = subst (λ (x : Edges × Parents). Shows x.0 x
 pub seen : (directories : Directories) (u : Shown (edges_of directories) (parents_of directories)) (t : Tree) → ShowsOf directories t → u.0 ≡ t
 seen directories u t shows = one_tree (edges_of directories) (parents_of directories) u.0 t u.1 shows
 
+-- and what it was seen as is what it shows
+pub shown_as : (directories : Directories) (u : Shown (edges_of directories) (parents_of directories)) (t : Tree) → u.0 ≡ t → ShowsOf directories t
+shown_as directories u t is = subst (λ (t : Tree). ShowsOf directories t) is u.1
+
 -- ---- after an answer
 
 pub either_way : {V E : Type 0} {A B X : Type 0} (r : Result V E) → OnOk r A → OnErr r B → (A → X) → (B → X) → X
@@ -93,7 +97,7 @@ some_is : (o : Option ℕ) → is_some o ≡ false → o ≡ None
 some_is None e = refl
 some_is (Some n) e = cc
 
-some_by : {o : Option ℕ} {n : ℕ} → o ≡ Some n → IsSome o
+pub some_by : {o : Option ℕ} {n : ℕ} → o ≡ Some n → IsSome o
 some_by e = ap (λ o. is_some o) e
 
 module _ (old : Directories) (is : IsTreeOf old) (now : Tree) (shows : ShowsOf old now) where

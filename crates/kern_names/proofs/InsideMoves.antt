@@ -5,17 +5,19 @@ use Rattle.std.proofs.lemmas.Bool.{cases_eq, eqb-true, eq-eqb, and_parts, and_fr
 use Rattle.std.specs.Cmp.Lexicographic.{pointwise, bytes_decides}
 use Rattle.std.specs.FinMap.{get, remove}
 use Rattle.std.specs.FinSet as set
+use Rattle.std.specs.Prelude.{Result, OnOk, OnErr}
+use Rattle.sp_base.specs.declared.memory.NoMemory.{NoMemory}
 use Rattle.kern_model.specs.Name.{Path, Names, below, is_same_path, renamed}
 use Rattle.kern_model.specs.Links.{is_below}
 use Rattle.kern_model.proofs.RenameLaws.{apart_by}
 use Rattle.kern_names.specs.Tree.{Tree, has_directory, without_name, moved}
-use Rattle.kern_names.specs.Edges.{Edges, Parents, step, resolve, IsTree, edges_of, parents_of}
-use Rattle.kern_names.specs.Changes.{MovesName, ReplacesName}
+use Rattle.kern_names.specs.Edges.{Edges, Parents, step, resolve, IsTree, Shown, edges_of, parents_of}
+use Rattle.kern_names.specs.Changes.{Keeps, MovesName, ReplacesName}
 use Rattle.kern_names.specs.Requests.{MayGo, MayMove, MayReplace}
 use Rattle.kern_names.proofs.ShownLaws.{not_child, none_some, same_node, nothing}
 use Rattle.kern_names.proofs.RemovedLaws.{tree_removed, names_removed, others_left}
 use Rattle.kern_names.proofs.MovedLaws.{tree_moved, names_moved}
-use Rattle.kern_names.proofs.InsideLaws.{Directories, ShowsOf, IsTreeOf, is_up, named, bare, in_fewer, beside_fewer}
+use Rattle.kern_names.proofs.InsideLaws.{Directories, ShowsOf, IsTreeOf, kept_tree, kept_shows, seen, either_way, on_ok, on_err, place, stands, is_up, named, bare, in_fewer, beside_fewer}
 
 -- a path that isn't below another is none below it
 apart_path : (old new : Path) → is_below new old ≡ false → new ≢ old → (r : Path) → new ≢ r ++ old
@@ -188,3 +190,84 @@ module _ (old : Directories) (is : IsTreeOf old) (now : Tree) (shows : ShowsOf o
           has_still (forget_here edge to new_name) outside_still replaces.gone replaces.come kept_still up_still plain_still moved_still (remove now.names after) fewer_names,
       λ n. directories_fewer n (cases_eq n replaced) ∙ kind_stays fewer_up (parents_of new) node to up_still plain_still moved_still n,
     )
+
+-- ---- a rename, from its answer
+
+module _ (old : Directories) (is : IsTreeOf old) (now : Tree) (shows : ShowsOf old now) (from to : ℕ) (old_name new_name : List ℕ)
+    (within : IsTrue (has_directory now from)) (under : IsTrue (has_directory now to)) where
+  abbrev path : Path
+  path = (place old is now shows from within).path
+
+  abbrev above : Path
+  above = (place old is now shows to under).path
+
+  at : get now.names path ≡ Some from
+  at = stands old is now shows from within
+
+  into : get now.names above ≡ Some to
+  into = stands old is now shows to under
+
+  -- the node that a name has, where something stands under it
+  pub child_stands : (child : Option ℕ) (p : Path) → get now.names p ≡ Some from → child ≡ edges_of old from old_name → get now.names (old_name ∷ p) ≡ child
+  child_stands child p e found = sym (named old is now shows from old_name p e) ∙ sym found
+
+  module _ (may : (path above : Path) → get now.names path ≡ Some from → get now.names above ≡ Some to → MayMove now (old_name ∷ path) (new_name ∷ above))
+      (node : ℕ) (found : Some node ≡ edges_of old from old_name) (new : Directories) (r : Result (Unit {0}) NoMemory)
+      (ok : OnOk r (MovesName old new from old_name to new_name node)) (err : OnErr r (Keeps old new)) where
+    pub rename_shown : Shown (edges_of new) (parents_of new)
+    rename_shown = either_way r ok err
+        (λ moves. (moved now (old_name ∷ path) (new_name ∷ above),
+              moved_shows old is now shows from to old_name new_name within under path above at into node (child_stands (Some node) path at found) new (may path above at into) moves))
+        (λ keeps. (now, kept_shows old new keeps now shows))
+
+    pub rename_tree : IsTreeOf new
+    rename_tree = either_way r ok err
+        (λ moves. moved_tree old is now shows from to old_name new_name within under path above at into node (child_stands (Some node) path at found) new (may path above at into) moves)
+        (λ keeps. kept_tree old new keeps is)
+
+    pub rename_ok : (u : Shown (edges_of new) (parents_of new)) (p q : Path) → get now.names p ≡ Some from → get now.names q ≡ Some to → OnOk r (u.0 ≡ moved now (old_name ∷ p) (new_name ∷ q))
+    rename_ok u p q e f = on_ok r
+        (λ moves. seen new u _ (moved_shows old is now shows from to old_name new_name within under p q e f node (child_stands (Some node) p e found) new (may p q e f) moves)) ok
+
+    pub rename_err : (u : Shown (edges_of new) (parents_of new)) → OnErr r (u.0 ≡ now)
+    rename_err u = on_err r (λ keeps. seen new u now (kept_shows old new keeps now shows)) err
+
+  -- ---- a rename over another node
+
+  module _ (may : (path above : Path) → get now.names path ≡ Some from → get now.names above ≡ Some to → MayReplace now (old_name ∷ path) (new_name ∷ above)) where
+    pub moved_there : edges_of old from old_name ≡ None → ⊥
+    moved_there none = nothing _ (sym (named old is now shows from old_name path at) ∙ none) (may path above at into).there
+
+    pub replaced_there : edges_of old to new_name ≡ None → ⊥
+    replaced_there none = nothing _ (sym (named old is now shows to new_name above into) ∙ none) (may path above at into).taken.there
+
+    module _ (node replaced : ℕ) (found : Some node ≡ edges_of old from old_name) (other : Some replaced ≡ edges_of old to new_name) where
+      there : get now.names (old_name ∷ path) ≡ Some node
+      there = child_stands (Some node) path at found
+
+      taken : get now.names (new_name ∷ above) ≡ Some replaced
+      taken = sym (named old is now shows to new_name above into) ∙ sym other
+
+      pub two_nodes : node ≢ replaced
+      two_nodes e = (may path above at into).two (there ∙ ap (λ (n : ℕ). Some n) e ∙ sym taken)
+
+      pub two_places : (from ≡ to) × (old_name ≡ new_name) → ⊥
+      two_places same = two_nodes (same_node (found ∙ (λ i. edges_of old (same.0 i) (same.1 i)) ∙ sym other))
+
+      pub replaced_bare : (c : List ℕ) → edges_of old replaced c ≡ None
+      replaced_bare = bare old is now shows (new_name ∷ above) replaced taken (may path above at into).taken
+
+      module _ (new : Directories) (replaces : ReplacesName old new from old_name to new_name node replaced) where
+        pub replace_shown : Shown (edges_of new) (parents_of new)
+        replace_shown = (moved (without_name now (new_name ∷ above) replaced) (old_name ∷ path) (new_name ∷ above),
+          replaced_shows old is now shows from to old_name new_name within under path above at into node there new (may path above at into) replaced taken replaces)
+
+        pub replace_tree : IsTreeOf new
+        replace_tree = replaced_tree old is now shows from to old_name new_name within under path above at into node there new (may path above at into) replaced taken replaces
+
+        pub replace_is : (u : Shown (edges_of new) (parents_of new)) (p q : Path) (n : ℕ) → get now.names p ≡ Some from → get now.names q ≡ Some to → get now.names (new_name ∷ q) ≡ Some n
+            → u.0 ≡ moved (without_name now (new_name ∷ q) n) (old_name ∷ p) (new_name ∷ q)
+        replace_is u p q n e f taken_by =
+            let same : replaced ≡ n = same_node (other ∙ named old is now shows to new_name q f ∙ taken_by) in
+            seen new u _ (subst (λ (m : ℕ). ShowsOf new (moved (without_name now (new_name ∷ q) m) (old_name ∷ p) (new_name ∷ q))) same
+                (replaced_shows old is now shows from to old_name new_name within under p q e f node (child_stands (Some node) p e found) new (may p q e f) replaced (taken_by ∙ ap (λ (m : ℕ). Some m) (sym same)) replaces))

@@ -6,3 +6,4 @@ pub mod MovedLaws
 pub mod EntriesLaws
 pub mod InsideLaws
 pub mod InsideMoves
+pub mod RootLaws

@@ -48,3 +48,8 @@ nothing (Some n) e some = cc
 -- a node of which there is no parent isn't one of which there is
 pub apart : (up : Parents) (m n : ℕ) → up m ≡ None → IsSome (up n) → m ≢ n
 apart up m n none some e = nothing (up n) (ap up (sym e) ∙ none) some
+
+-- what is no number is nothing
+pub none_by : (o : Option ℕ) → ((n : ℕ) → o ≡ Some n → ⊥) → o ≡ None
+none_by None h = refl
+none_by (Some n) h = absurd (h n refl)

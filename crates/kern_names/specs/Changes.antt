@@ -2,8 +2,15 @@
 use Rattle.std.specs.Prelude.{◌≡◌, ◌≢◌, ℕ, List, Bool, Option, None, Some, IsSome, if◌then◌else◌}
 use Rattle.std.specs.Ordering.{nat_cmp}
 use Rattle.std.specs.BTreeMap.{BTreeMap, get}
+use Rattle.kern_model.specs.State.{root}
 use Rattle.kern_names.specs.declared.directories.Directory.{Directory}
 use Rattle.kern_names.specs.Edges.{edges_of, parents_of}
+
+-- there is the root alone: it stands in itself and has no names
+pub record IsRootAlone (directories : BTreeMap ℕ Directory) : Type 0 where
+  pub names : (d : ℕ) (c : List ℕ) → edges_of directories d c ≡ None
+  pub top : parents_of directories root ≡ Some root
+  pub others : (n : ℕ) → n ≢ root → parents_of directories n ≡ None
 
 -- each number has the directory that it had
 abbrev pub Keeps : BTreeMap ℕ Directory → BTreeMap ℕ Directory → Type 0

@@ -1,4 +1,4 @@
-ghost use Rattle.std.specs.Prelude.{◌≡◌, ◌≢◌, ℕ, ◌∷◌, None, Some, IsSome, IsTrue, IfOk, OnOk, OnErr};
+ghost use Rattle.std.specs.Prelude.{◌≡◌, ◌≢◌, ℕ, ◌∷◌, None, Some, IsSome, IsTrue, IfOk, OnOk, OnErr, not};
 ghost use Rattle.std.specs.Option.{option_map};
 ghost use Rattle.std.specs.FinMap.{get};
 ghost use Rattle.kern_model.specs.Name.{Path, has_entries, parent};
@@ -13,6 +13,9 @@ use sp_base::{NoMemory, NodeNo};
 use std::alloc::Global;
 use std::collections::BTreeMap;
 use std::marker::Model;
+
+/// The node of the root directory.
+pub const ROOT: NodeNo = NodeNo(1);
 
 /// A directory: the one that it stands in, the root's the root itself, and its names.
 #[derive(Drop)]
@@ -45,6 +48,16 @@ impl Model for Directories {
 }
 
 impl Directories {
+    /// The root directory alone.
+    pub fn fresh(alloc: Global) -> Result<Directories, NoMemory>
+        ensures { IfOk result (λ directories. directories ≡ root_alone) }
+    {
+        Ok(Directories {
+            alloc,
+            directories: entries::root_alone(alloc)?,
+        })
+    }
+
     /// The node under a name in a directory.
     pub fn child(&self, directory: NodeNo, name: &[u8]) -> Option<NodeNo>
         ensures { (path : Path) → get self.now.names path ≡ Some directory.0 → get self.now.names (name.now ∷ path) ≡ option_map (λ node. node.0) result }
@@ -95,5 +108,85 @@ impl Directories {
             Some(node) => entries::remove(&mut self.directories, directory.0, name, node),
             None => unreachable!(),
         }
+    }
+
+    /// Whether a directory has no names.
+    pub fn is_empty(&self, directory: NodeNo) -> bool
+        requires { IsTrue (has_directory self.now directory.0) }
+        ensures { (path : Path) → get self.now.names path ≡ Some directory.0 → has_entries self.now.names path ≡ not result }
+    {
+        match self.directories.get(&directory.0) {
+            Some(directory) => directory.entries.is_empty(),
+            None => unreachable!(),
+        }
+    }
+
+    /// The directory that a directory stands in, for the root the root.
+    pub fn parent(&self, directory: NodeNo) -> NodeNo
+        requires { IsTrue (has_directory self.now directory.0) }
+        ensures within { IsTrue (has_directory self.now result.0) }
+        ensures above { (path : Path) → get self.now.names path ≡ Some directory.0 → get self.now.names (parent path) ≡ Some result.0 }
+    {
+        match self.directories.get(&directory.0) {
+            Some(directory) => NodeNo(directory.parent),
+            None => unreachable!(),
+        }
+    }
+
+    /// Gives what stands under a name of a directory a name that is free, in the same directory or
+    /// another. A directory takes with it what stands below it. Want of memory leaves the
+    /// directories as they were.
+    pub fn rename(
+        &mut self,
+        from: NodeNo,
+        old_name: &[u8],
+        to: NodeNo,
+        new_name: &[u8],
+    ) -> Result<(), NoMemory>
+        requires within { IsTrue (has_directory self.old from.0) }
+        requires under { IsTrue (has_directory self.old to.0) }
+        requires may { (path above : Path) → get self.old.names path ≡ Some from.0 → get self.old.names above ≡ Some to.0 → MayMove self.old (old_name.now ∷ path) (new_name.now ∷ above) }
+        ensures ok { (path above : Path) → get self.old.names path ≡ Some from.0 → get self.old.names above ≡ Some to.0
+            → OnOk result (self.new ≡ moved self.old (old_name.now ∷ path) (new_name.now ∷ above)) }
+        ensures err { OnErr result (self.new ≡ self.old) }
+    {
+        match entries::child(&self.directories, from.0, old_name) {
+            Some(node) => entries::rename(
+                self.alloc,
+                &mut self.directories,
+                from.0,
+                old_name,
+                to.0,
+                new_name,
+                node,
+            ),
+            None => unreachable!(),
+        }
+    }
+
+    /// Gives what stands under a name of a directory the name of another node, which is gone, and
+    /// no directory from then on. Takes no memory.
+    pub fn replace(&mut self, from: NodeNo, old_name: &[u8], to: NodeNo, new_name: &[u8])
+        requires within { IsTrue (has_directory self.old from.0) }
+        requires under { IsTrue (has_directory self.old to.0) }
+        requires may { (path above : Path) → get self.old.names path ≡ Some from.0 → get self.old.names above ≡ Some to.0 → MayReplace self.old (old_name.now ∷ path) (new_name.now ∷ above) }
+        ensures { (path above : Path) (replaced : ℕ) → get self.old.names path ≡ Some from.0 → get self.old.names above ≡ Some to.0 → get self.old.names (new_name.now ∷ above) ≡ Some replaced
+            → self.new ≡ moved (without_name self.old (new_name.now ∷ above) replaced) (old_name.now ∷ path) (new_name.now ∷ above) }
+    {
+        let Some(node) = entries::child(&self.directories, from.0, old_name) else {
+            unreachable!()
+        };
+        let Some(replaced) = entries::child(&self.directories, to.0, new_name) else {
+            unreachable!()
+        };
+        entries::replace(
+            &mut self.directories,
+            from.0,
+            old_name,
+            to.0,
+            new_name,
+            node,
+            replaced,
+        );
     }
 }

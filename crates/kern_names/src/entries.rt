@@ -1,12 +1,28 @@
-ghost use Rattle.std.specs.Prelude.{◌≡◌, ◌≢◌, ℕ, List, None, Some, IsSome, OnOk, OnErr};
+ghost use Rattle.std.specs.Prelude.{◌≡◌, ◌≢◌, ℕ, List, None, Some, IsSome, IfOk, OnOk, OnErr};
 ghost use Rattle.kern_names.specs.Edges.{edges_of, parents_of};
-ghost use Rattle.kern_names.specs.Changes.{Keeps, KeepsNames, SetsName, SetsParent, MakesDirectory, DropsDirectory, AddsName, RemovesName, MovesName, ReplacesName};
+ghost use Rattle.kern_names.specs.Changes.{IsRootAlone, Keeps, KeepsNames, SetsName, SetsParent, MakesDirectory, DropsDirectory, AddsName, RemovesName, MovesName, ReplacesName};
 
-use crate::directories::Directory;
+use crate::directories::{Directory, ROOT};
 use crate::listing::Listing;
 use sp_base::NoMemory;
 use std::alloc::Global;
 use std::collections::BTreeMap;
+
+/// The root directory, which stands in itself, without names.
+pub(crate) fn root_alone(alloc: Global) -> Result<BTreeMap<u64, Directory>, NoMemory>
+    ensures { IfOk result IsRootAlone }
+{
+    let mut directories = BTreeMap::new(alloc);
+    let entries = Listing::none(alloc);
+    directories.insert(
+        ROOT.0,
+        Directory {
+            parent: ROOT.0,
+            entries,
+        },
+    )?;
+    Ok(directories)
+}
 
 /// The node of a name in a directory.
 pub(crate) fn child(

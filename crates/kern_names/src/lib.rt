@@ -5,4 +5,4 @@ mod directories;
 mod entries;
 mod listing;
 
-pub use directories::Directories;
+pub use directories::{Directories, ROOT};
