@@ -15,6 +15,7 @@ use Rattle.std.specs.BTreeMap as tree
 use Rattle.std.specs.FinMap.{get, insert, remove, nat_cmp-IsAntisymmetric}
 use Rattle.std.specs.FinSet as set
 use Rattle.kern_model.specs.Name.{Path, Names, has_entries, below, renamed, is_same_path}
+use Rattle.kern_model.specs.State.{root}
 use Rattle.kern_model.specs.Links.{is_below}
 use Rattle.kern_model.proofs.EntryLaws.{no_entry}
 use Rattle.kern_model.proofs.RenameLaws.{apart_by}
@@ -121,6 +122,16 @@ module _ (old : Directories) (is : IsTreeOf old) (now : Tree) (shows : ShowsOf o
 
   pub stands : (node : ℕ) (h : IsTrue (has_directory now node)) → get now.names (place node h).path ≡ Some node
   stands node h = shows.0 (place node h).path ∙ (place node h).leads
+
+  -- the root is a directory, and a directory has one path
+  pub root_within : IsTrue (has_directory now root)
+  root_within = shows.1 root ∙ some_by is.top
+
+  pub root_stands : get now.names [] ≡ Some root
+  root_stands = shows.0 []
+
+  pub one_path : (node : ℕ) → IsTrue (has_directory now node) → (p q : Path) → get now.names p ≡ Some node → get now.names q ≡ Some node → p ≡ q
+  one_path node h p q e f = is.once p q node (leads p e) (leads q f) (is_up node h)
 
   -- what a directory has under a name stands under the name in the directory's path
   pub named : (directory : ℕ) (name : List ℕ) (path : Path) → get now.names path ≡ Some directory → edge directory name ≡ get now.names (name ∷ path)

@@ -7,3 +7,5 @@ pub mod EntriesLaws
 pub mod InsideLaws
 pub mod InsideMoves
 pub mod RootLaws
+pub mod TextLaws
+pub mod WalkSteps

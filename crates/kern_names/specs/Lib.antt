@@ -4,3 +4,4 @@ pub mod Edges
 pub mod Shown
 pub mod Changes
 pub mod Requests
+pub mod Reach

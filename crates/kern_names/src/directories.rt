@@ -29,7 +29,7 @@ pub struct Directory {
 #[derive(Drop)]
 pub struct Directories {
     alloc: Global,
-    directories: BTreeMap<u64, Directory>,
+    pub(crate) directories: BTreeMap<u64, Directory>,
     ghost shown: { Shown (edges_of directories) (parents_of directories) } by { Shown-prop (edges_of directories) (parents_of directories) },
 }
 

@@ -4,5 +4,9 @@
 mod directories;
 mod entries;
 mod listing;
+mod path_text;
+mod walk;
+mod walks;
 
 pub use directories::{Directories, ROOT};
+pub use walk::{Last, Walked};
