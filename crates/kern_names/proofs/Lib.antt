@@ -9,3 +9,4 @@ pub mod InsideMoves
 pub mod RootLaws
 pub mod TextLaws
 pub mod WalkSteps
+pub mod AboveLaws

@@ -1,7 +1,7 @@
-ghost use Rattle.std.specs.Prelude.{◌≡◌, ◌≢◌, ℕ, ◌∷◌, None, Some, IsSome, IsTrue, IfOk, OnOk, OnErr, not};
+ghost use Rattle.std.specs.Prelude.{◌≡◌, ◌≢◌, ℕ, ◌∷◌, None, Some, IsSome, IsTrue, IfOk, OnOk, OnErr, is_some, not};
 ghost use Rattle.std.specs.Option.{option_map};
 ghost use Rattle.std.specs.FinMap.{get};
-ghost use Rattle.kern_model.specs.Name.{Path, has_entries, parent};
+ghost use Rattle.kern_model.specs.Name.{Path, has_entries, parent, below};
 ghost use Rattle.kern_names.specs.Edges.{Shown, edges_of, parents_of};
 ghost use Rattle.kern_names.specs.Shown.{Shown-prop};
 ghost use Rattle.kern_names.specs.Tree.{root_alone, has_directory, with_name, without_name, moved};
@@ -72,6 +72,22 @@ impl Directories {
         self.directories.contains_key(&node.0)
     }
 
+    /// Whether a directory is another node, or stands somewhere below it.
+    pub fn is_inside(&self, directory: NodeNo, top: NodeNo) -> bool
+        requires { IsTrue (has_directory self.now directory.0) }
+        ensures { (path above : Path) → get self.now.names path ≡ Some directory.0 → get self.now.names above ≡ Some top.0 → result ≡ is_some (below path above) }
+    {
+        let directories = &self.directories;
+        let mut at = directory.0;
+        while at != top.0 {
+            if at == ROOT.0 {
+                return false;
+            }
+            at = entries::parent(directories, at);
+        }
+        true
+    }
+
     /// Gives a node a name that is free in a directory; where it is to be a directory, it is an
     /// empty one. Want of memory leaves the directories as they were.
     pub fn add(
@@ -127,10 +143,7 @@ impl Directories {
         ensures within { IsTrue (has_directory self.now result.0) }
         ensures above { (path : Path) → get self.now.names path ≡ Some directory.0 → get self.now.names (parent path) ≡ Some result.0 }
     {
-        match self.directories.get(&directory.0) {
-            Some(directory) => NodeNo(directory.parent),
-            None => unreachable!(),
-        }
+        NodeNo(entries::parent(&self.directories, directory.0))
     }
 
     /// Gives what stands under a name of a directory a name that is free, in the same directory or

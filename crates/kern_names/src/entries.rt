@@ -38,6 +38,17 @@ pub(crate) fn child(
     }
 }
 
+/// The directory that a directory stands in.
+pub(crate) fn parent(directories: &BTreeMap<u64, Directory>, directory: u64) -> u64
+    requires { IsSome (parents_of directories.now directory) }
+    ensures { parents_of directories.now directory ≡ Some result }
+{
+    match directories.get(&directory) {
+        Some(directory) => directory.parent,
+        None => unreachable!(),
+    }
+}
+
 /// Gives a name of a directory a node. Want of memory changes nothing.
 fn put(
     directories: &mut BTreeMap<u64, Directory>,
