@@ -10,3 +10,4 @@ pub mod RootLaws
 pub mod TextLaws
 pub mod WalkSteps
 pub mod AboveLaws
+pub mod CountLaws

@@ -50,6 +50,17 @@ module _ (alone : Directories) (is : IsRootAlone alone) where
   pub root_shows : ShowsOf alone root_alone
   root_shows = (root_names, λ n. root_directories n (cases_eq n root))
 
+-- the root alone has the root's number, and nothing stands in it
+pub root_has_no_other : (path : Path) (node : ℕ) → get root_alone.names path ≡ Some node → (path ≡ []) × (root ≡ node)
+root_has_no_other path node e = by_test (is_same_path path []) refl
+  where
+    is : cond (is_same_path path []) (Some root) (get {R = path_cmp} empty path) ≡ Some node
+    is = sym (get-insert paths_total empty [] root path) ∙ e
+
+    by_test : (b : Bool) → is_same_path path [] ≡ b → (path ≡ []) × (root ≡ node)
+    by_test true t = (path_from_test path [] t, same_node (ap (λ b. cond b (Some root) (get {R = path_cmp} empty path)) (sym t) ∙ is))
+    by_test false t = absurd (none_some (sym (get-empty path_cmp path) ∙ ap (λ b. cond b (Some root) (get {R = path_cmp} empty path)) (sym t) ∙ is))
+
 -- ---- what stands right in a directory
 
 first : (a b : Bool) → (a || b) ≡ false → a ≡ false

@@ -5,6 +5,8 @@ mod directories;
 mod entries;
 mod listing;
 mod path_text;
+#[cfg(test)]
+mod tests;
 mod walk;
 mod walks;
 
