@@ -11,8 +11,7 @@ use Rattle.sp_frames.specs.declared.rows.Row.TheVariants as row
 use Rattle.sp_frames.specs.declared.reading.Step.{Step}
 use Rattle.sp_frames.specs.declared.reading.Step.TheVariants.{Whole, Partial, Fault}
 use Rattle.sp_base.specs.declared.names.Cookie.{Cookie}
-use Rattle.sp_base.specs.declared.names.SpError.{SpError}
-use Rattle.sp_base.specs.declared.names.SpError.TheVariants as error
+use Rattle.sp_base.specs.Names.{sp_error_of}
 use Rattle.sp_frames.specs.Grammar.{is_answer, is_text_answer, may_be_refused}
 use Rattle.sp_frames.specs.Fields.{of16, of32, of64, Number, n16, n32, n64}
 
@@ -219,14 +218,6 @@ cookie_from front = record { number = nth front 0; salt = nth front 1 }
 abbrev pub body_if : Bool → Body → Option Body
 body_if test made = if test then Some made else None
 
--- the errors with a number, from 1 on
-abbrev pub errors : List SpError
-errors = error.TryAgain ∷ error.Auth ∷ error.BadCookie ∷ error.ProcFull ∷ error.InExec ∷ error.Memory ∷ error.Malformed ∷ []
-
--- the error of a number
-abbrev pub error_of : ℕ → SpError
-error_of word = get_or errors (word - 1) error.TryAgain
-
 -- the body of a row's type, word, numbers and bytes, unless they are outside the row
 abbrev pub body_from : Row → ℕ → ℕ → List Number → List ℕ → Option Body
 body_from row.Guest kind word front tail = option_map body.Guest (name_of tail)
@@ -248,7 +239,7 @@ body_from row.GotText kind word front tail = body_if (is_text_answer (nth front 
 body_from row.Forked kind word front tail = body_if (nat_lt (nth front 3) 4294967296) (body.Forked (cookie_from front) (record { 0 = nth front 2 }) (record { 0 = nth front 3 }))
 body_from row.Cancelled kind word front tail = Some body.Cancelled
 body_from row.ExecReady kind word front tail = Some (body.ExecReady (cookie_from front))
-body_from row.Refused kind word front tail = Some (body.Refused kind (error_of word))
+body_from row.Refused kind word front tail = option_map (body.Refused kind) (sp_error_of word)
 
 -- what a payload of a length that the row has says
 abbrev pub body_at : Row → ℕ → ℕ → List ℕ → Option Body
