@@ -5,6 +5,7 @@ use Rattle.sp_frames.specs.declared.fault.FrameFault.{FrameFault}
 use Rattle.sp_frames.specs.declared.fault.FrameFault.TheVariants.{TooShort, TooLong, Class, Kind, Word, Payload}
 use Rattle.sp_frames.specs.declared.frame.Body.{Body}
 use Rattle.sp_frames.specs.declared.frame.Body.TheVariants as body
+use Rattle.sp_frames.specs.declared.frame.TheConstants.{INDEX_LIMIT}
 use Rattle.sp_frames.specs.declared.header.Header.{Header}
 use Rattle.sp_frames.specs.declared.rows.Row.{Row}
 use Rattle.sp_frames.specs.declared.rows.Row.TheVariants as row
@@ -118,9 +119,9 @@ layout_of row.Guest = layout 0 (Only 0) (Only 0) (Within 1 255) [] true
 layout_of row.Join = layout 0 (Only 0) (Only 1) (Within 17 271) (n64 0 ∷ n64 0 ∷ []) true
 layout_of row.Image = layout 0 (Only 0) (Only 2) (Within 17 271) (n64 0 ∷ n64 0 ∷ []) true
 layout_of row.Sys = layout 0 (Only 1) Any Words [] true
-layout_of row.AskBytes = layout 0 (Only 2) (Below 8) (Only 16) (n64 0 ∷ n64 0 ∷ []) false
-layout_of row.AskText = layout 0 (Only 3) (Below 8) (Only 16) (n64 0 ∷ n64 0 ∷ []) false
-layout_of row.Put = layout 0 (Only 4) (Below 8) (Within 9 131048) (n64 0 ∷ []) true
+layout_of row.AskBytes = layout 0 (Only 2) (Below INDEX_LIMIT) (Only 16) (n64 0 ∷ n64 0 ∷ []) false
+layout_of row.AskText = layout 0 (Only 3) (Below INDEX_LIMIT) (Only 16) (n64 0 ∷ n64 0 ∷ []) false
+layout_of row.Put = layout 0 (Only 4) (Below INDEX_LIMIT) (Within 9 131048) (n64 0 ∷ []) true
 layout_of row.Prefork = layout 0 (Only 5) (Only 0) (Only 0) [] false
 layout_of row.Cancel = layout 0 (Only 5) (Only 1) (Only 16) (n64 0 ∷ n64 0 ∷ []) false
 layout_of row.Preexec = layout 0 (Only 6) (Only 0) (Only 0) [] false
@@ -128,8 +129,8 @@ layout_of row.Hello = layout 1 (Only 0) (Only 0) (Only 4) (n32 0 ∷ []) false
 layout_of row.Joined = layout 1 (Only 0) (Only 1) (Only 4) (n32 0 ∷ []) false
 layout_of row.Imaged = layout 1 (Only 0) (Only 2) (Only 12) (n32 0 ∷ n64 0 ∷ []) false
 layout_of row.Answered = layout 1 (Only 1) Any (Only 24) (n64 0 ∷ n64 0 ∷ n64 0 ∷ []) false
-layout_of row.GotBytes = layout 1 (Only 2) (Below 8) (Within 4 131048) (n32 0 ∷ []) true
-layout_of row.GotText = layout 1 (Only 3) (Below 8) (Within 4 1027) (n32 0 ∷ []) true
+layout_of row.GotBytes = layout 1 (Only 2) (Below INDEX_LIMIT) (Within 4 131048) (n32 0 ∷ []) true
+layout_of row.GotText = layout 1 (Only 3) (Below INDEX_LIMIT) (Within 4 1027) (n32 0 ∷ []) true
 layout_of row.Forked = layout 1 (Only 5) (Only 0) (Only 32) (n64 0 ∷ n64 0 ∷ n64 0 ∷ n64 0 ∷ []) false
 layout_of row.Cancelled = layout 1 (Only 5) (Only 1) (Only 0) [] false
 layout_of row.ExecReady = layout 1 (Only 6) (Only 0) (Only 16) (n64 0 ∷ n64 0 ∷ []) false

@@ -3,6 +3,7 @@ ghost use Rattle.std.specs.Prelude.{◌≡◌, ◌-◌, ◌≤◌, true, OnOk, I
 ghost use Rattle.sp_frames.specs.Reading.{allows, layout_of, is_of, has_word, has_size, row_at, has_kind, row_or, row_of};
 
 use crate::fault::FrameFault;
+use crate::frame::INDEX_LIMIT;
 use crate::header::Header;
 use Allowed::{Any, Below, Only, Refusable, Within, Words};
 
@@ -102,9 +103,9 @@ impl Row {
             Row::Join => (0, Only(0), Only(1), Within(17, 271)),
             Row::Image => (0, Only(0), Only(2), Within(17, 271)),
             Row::Sys => (0, Only(1), Any, Words),
-            Row::AskBytes => (0, Only(2), Below(8), Only(16)),
-            Row::AskText => (0, Only(3), Below(8), Only(16)),
-            Row::Put => (0, Only(4), Below(8), Within(9, 131_048)),
+            Row::AskBytes => (0, Only(2), Below(INDEX_LIMIT), Only(16)),
+            Row::AskText => (0, Only(3), Below(INDEX_LIMIT), Only(16)),
+            Row::Put => (0, Only(4), Below(INDEX_LIMIT), Within(9, 131_048)),
             Row::Prefork => (0, Only(5), Only(0), Only(0)),
             Row::Cancel => (0, Only(5), Only(1), Only(16)),
             Row::Preexec => (0, Only(6), Only(0), Only(0)),
@@ -112,8 +113,8 @@ impl Row {
             Row::Joined => (1, Only(0), Only(1), Only(4)),
             Row::Imaged => (1, Only(0), Only(2), Only(12)),
             Row::Answered => (1, Only(1), Any, Only(24)),
-            Row::GotBytes => (1, Only(2), Below(8), Within(4, 131_048)),
-            Row::GotText => (1, Only(3), Below(8), Within(4, 1027)),
+            Row::GotBytes => (1, Only(2), Below(INDEX_LIMIT), Within(4, 131_048)),
+            Row::GotText => (1, Only(3), Below(INDEX_LIMIT), Within(4, 1027)),
             Row::Forked => (1, Only(5), Only(0), Only(32)),
             Row::Cancelled => (1, Only(5), Only(1), Only(0)),
             Row::ExecReady => (1, Only(6), Only(0), Only(16)),
