@@ -9,6 +9,7 @@ mod script;
 mod words;
 
 pub use fault::{ScriptFault, ScriptKind};
+pub use length::MOST_BYTES;
 pub use row::put_row;
 pub use script::{Line, Script, Section};
 

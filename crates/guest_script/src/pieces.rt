@@ -1,9 +1,6 @@
 //! Bytes in pieces: the lines of a text, the words of a line.
-ghost use Rattle.std.specs.Prelude.{◌≡◌, ◌<◌, ℕ, [], ◌∷◌, ◌+◌, ◌==◌, length, take, drop, map, position, IfSome, IfNone, IfOk};
+ghost use Rattle.std.specs.Prelude.{◌≡◌, ◌<◌, ℕ, [], ◌∷◌, ◌+◌, ◌==◌, length, take, drop, position, IfSome, IfNone};
 ghost use Rattle.guest_script.specs.Pieces.{pieces_of, first_filled};
-
-use sp_base::NoMemory;
-use std::alloc::Global;
 
 /// The first place of the separator.
 fn separator_at(bytes: &[u8], separator: u8) -> Option<usize>
@@ -20,6 +17,7 @@ fn first_end(bytes: &[u8], separator: u8) -> Option<usize>
     ensures first { IfSome result (λ i. pieces_of separator bytes.now ≡ take i bytes.now ∷ pieces_of separator (drop (i + 1) bytes.now)) }
     ensures more { IfSome result (λ i. 0 < length (pieces_of separator (drop (i + 1) bytes.now))) }
 {
+    // The arms stand apart, since each has its own proof.
     match separator_at(bytes, separator) {
         Some(i) => Some(i),
         None => None,
@@ -41,20 +39,6 @@ pub fn split_first(bytes: &[u8], separator: u8) -> Option<(&[u8], &[u8])>
         }
         None => None,
     }
-}
-
-/// All pieces, in order.
-pub fn pieces(alloc: Global, bytes: &[u8], separator: u8) -> Result<Vec<&[u8]>, NoMemory>
-    ensures { IfOk result (λ pieces. map (λ piece. piece.now) pieces.items ≡ pieces_of separator bytes.now) }
-{
-    let mut pieces = Vec::new(alloc);
-    let mut rest = bytes;
-    while let Some((piece, after)) = split_first(rest, separator) {
-        pieces.push(piece)?;
-        rest = after;
-    }
-    pieces.push(rest)?;
-    Ok(pieces)
 }
 
 /// The first piece that isn't empty; the empty one where each is.

@@ -122,11 +122,11 @@ pub error_number : (w : ℕ) (why : SpError) → sp_error_of w ≡ Some why → 
 error_number w why =
     one_or_later w 1 error.TryAgain why _ refl
     (one_or_later w 2 error.Auth why _ refl
-      (one_or_later w 3 error.BadCookie why _ refl
-        (one_or_later w 4 error.ProcFull why _ refl
-          (one_or_later w 5 error.InExec why _ refl
-            (one_or_later w 6 error.Memory why _ refl
-              (one_or_later w 7 error.Malformed why None refl (λ e. absurd cc)))))))
+    (one_or_later w 3 error.BadCookie why _ refl
+    (one_or_later w 4 error.ProcFull why _ refl
+    (one_or_later w 5 error.InExec why _ refl
+    (one_or_later w 6 error.Memory why _ refl
+    (one_or_later w 7 error.Malformed why None refl (λ e. absurd cc)))))))
 
 -- a number from 1 to 7 is that of an error
 pub error_there : (w : ℕ) → within 1 7 w ≡ true → (why : SpError) × (sp_error_of w ≡ Some why)

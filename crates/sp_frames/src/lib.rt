@@ -21,5 +21,8 @@ pub use banner::BANNER;
 pub use fault::FrameFault;
 pub use frame::{Body, Frame, INDEX_LIMIT};
 pub use framer::Framer;
-pub use laws::{banner_is_the_text, fault_ends_the_frames, fault_stays, no_prefix, one_fault, one_spelling, one_whole};
+pub use laws::{
+    banner_is_the_text, fault_ends_the_frames, fault_stays, no_prefix, one_fault, one_spelling,
+    one_whole,
+};
 pub use writing::encode;

@@ -166,11 +166,20 @@ const FAULTS: [(u64, u16, u16, u32, FrameFault); 33] = [
 /// Each fault as text.
 const TEXTS: [(FrameFault, &str); 7] = [
     (FrameFault::TooShort(23), "a length of 23 is below 24"),
-    (FrameFault::TooLong(131_073), "a length of 131073 is above 131072"),
+    (
+        FrameFault::TooLong(131_073),
+        "a length of 131073 is above 131072",
+    ),
     (FrameFault::Class(3), "no class 3"),
     (FrameFault::Kind(7), "no type 7 in this class"),
-    (FrameFault::Word { kind: 5, word: 2 }, "type 5 has no word 2"),
-    (FrameFault::Payload { kind: 0, len: 24 }, "a frame of type 0 with 24 bytes is outside its row"),
+    (
+        FrameFault::Word { kind: 5, word: 2 },
+        "type 5 has no word 2",
+    ),
+    (
+        FrameFault::Payload { kind: 0, len: 24 },
+        "a frame of type 0 with 24 bytes is outside its row",
+    ),
     (FrameFault::NoMemory, "out of memory"),
 ];
 
