@@ -1,7 +1,7 @@
 -- What a script's text says.
 use Rattle.std.specs.Prelude.{◌≡◌, ◌⊎◌, ℕ, ◌+◌, ◌-◌, ◌^◌, ◌==◌, nat_lt, nat_le, Bool, not, ◌&&◌, ◌||◌, List, [], ◌∷◌, ◌++◌, length, Option, None, Some, Result, Ok, Err, codes, count_by, slice_index, IsTrue, if◌then◌else◌}
 use Rattle.std.specs.Char.{is_ascii_digit, is_ascii_lowercase}
-use Rattle.std.specs.List.{AllByRecursion, list_all}
+use Rattle.std.specs.List.{AllByRecursion, flat_map, list_all}
 use Rattle.std.specs.Option.{option_map}
 use Rattle.std.specs.Str.{all_ascii_digits, bytes_eq}
 use Rattle.std.specs.Str.Parse.{digits_value}
@@ -128,6 +128,18 @@ abbrev pub script_of : List ℕ → Result Script ScriptFault
 script_of text =
     if is_too_long text then Err too_long
     else and_then (sections_of (lines_of text)) (λ sections. Ok (record { sections = sections }))
+
+-- the text of a line, with its line end
+abbrev pub line_text : Line → List ℕ
+line_text line = line.text ++ codes "\n"
+
+-- the text of a section: the line that names the guest, and then its lines
+abbrev pub section_text : Section → List ℕ
+section_text section = (codes "guest " ++ section.name ++ codes "\n") ++ flat_map line_text section.lines
+
+-- the text of a script
+abbrev pub text_of : Script → List ℕ
+text_of script = flat_map section_text script.sections
 
 -- a call that a line says by now: `getpid`, or a `close`
 abbrev pub IsLineCall : Call → Type 0
