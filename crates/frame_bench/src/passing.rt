@@ -79,7 +79,7 @@ fn handle(alloc: Global, way: Way, bytes: &[u8]) -> Result<u64, FrameFault> {
 ///
 /// Each frame has 32 bytes and those that it puts, 131,040 at most. Nothing is claimed of the
 /// counts: they show that the work was done, and how a framer answers is said where it is defined.
-pub fn pass(alloc: Global, count: u32, way: Way, put: u32) -> Result<Passed, FrameFault>
+pub(crate) fn pass(alloc: Global, count: u32, way: Way, put: u32) -> Result<Passed, FrameFault>
     requires { put ≤ 131040 }
 {
     let text = stream(alloc, count, put)?;

@@ -38,7 +38,7 @@ fn append(alloc: Global, bytes: &mut Octets, number: u64, put: u32) -> Result<()
 }
 
 /// The frames of the numbers below a count, as bytes.
-pub fn stream(alloc: Global, count: u32, put: u32) -> Result<Octets, NoMemory>
+pub(crate) fn stream(alloc: Global, count: u32, put: u32) -> Result<Octets, NoMemory>
     requires { put ≤ 131040 }
 {
     let mut bytes = Octets::none(alloc);

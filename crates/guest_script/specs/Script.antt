@@ -110,7 +110,8 @@ abbrev pub lines_from : ℕ → List (List ℕ) → Result (List Line) ScriptFau
 lines_from at [] = Ok []
 lines_from at (text ∷ rest) =
     if length rest == 0 then at_end [] at text
-    else and_then (said at (line_call (words_of text))) (λ call. before (record { text = text; at = at; call = call } ∷ []) (lines_from (at + 1) rest))
+    else and_then (said at (line_call (words_of text)))
+    (λ call. before (record { text = text; at = at; call = call } ∷ []) (lines_from (at + 1) rest))
 
 -- the one section that a name in the first line begins, with the lines behind it
 abbrev pub section_from : List (List ℕ) → List ℕ → Result (List Section) ScriptFault

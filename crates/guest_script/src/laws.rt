@@ -5,5 +5,6 @@ ghost use Rattle.guest_script.specs.Script.{script_of, text_of};
 
 /// A script that was read from a text says that text again, byte by byte.
 pub fn script_says_its_text()
-    ensures { (text : List ℕ) (script : Script) → script_of text ≡ Ok script → text_of script ≡ text }
+    ensures { (text : List ℕ) (script : Script) → script_of text ≡ Ok script
+        → text_of script ≡ text }
 {}

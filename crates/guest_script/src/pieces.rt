@@ -14,7 +14,8 @@ fn separator_at(bytes: &[u8], separator: u8) -> Option<usize>
 fn first_end(bytes: &[u8], separator: u8) -> Option<usize>
     ensures last { IfNone result (pieces_of separator bytes.now ≡ bytes.now ∷ []) }
     ensures within { IfSome result (λ i. i < length bytes.now) }
-    ensures first { IfSome result (λ i. pieces_of separator bytes.now ≡ take i bytes.now ∷ pieces_of separator (drop (i + 1) bytes.now)) }
+    ensures first { IfSome result (λ i. pieces_of separator bytes.now
+        ≡ take i bytes.now ∷ pieces_of separator (drop (i + 1) bytes.now)) }
     ensures more { IfSome result (λ i. 0 < length (pieces_of separator (drop (i + 1) bytes.now))) }
 {
     // The arms stand apart, since each has its own proof.
@@ -27,7 +28,8 @@ fn first_end(bytes: &[u8], separator: u8) -> Option<usize>
 /// The first piece and what stands behind its separator; None where no separator is left.
 pub fn split_first(bytes: &[u8], separator: u8) -> Option<(&[u8], &[u8])>
     ensures last { IfNone result (pieces_of separator bytes.now ≡ bytes.now ∷ []) }
-    ensures first { IfSome result (λ parts. pieces_of separator bytes.now ≡ parts.0.now ∷ pieces_of separator parts.1.now) }
+    ensures first { IfSome result (λ parts.
+        pieces_of separator bytes.now ≡ parts.0.now ∷ pieces_of separator parts.1.now) }
     ensures more { IfSome result (λ parts. 0 < length (pieces_of separator parts.1.now)) }
     ensures shorter { IfSome result (λ parts. length parts.1.now < length bytes.now) }
 {

@@ -135,7 +135,8 @@ fn put_body(alloc: Global, h: &Header, payload: &[u8]) -> Result<Option<Body>, N
 
 fn got_bytes(alloc: Global, h: &Header, payload: &[u8]) -> Result<Option<Body>, NoMemory>
     requires { 4 ≤ length payload.now }
-    ensures { IfOk result (λ found. found ≡ body_at Row.GotBytes h.now.kind h.now.word payload.now) }
+    ensures { IfOk result (λ found.
+        found ≡ body_at Row.GotBytes h.now.kind h.now.word payload.now) }
 {
     let err = u32_at(payload, 0);
     let (_, bytes) = payload.split_at(4);

@@ -74,7 +74,8 @@ pub enum Body {
         err: u32,
         bytes: Octets,
     },
-    /// The response to AskText: the error 0 with at most 1,023 bytes, none of them zero, or 14 or 63 with none.
+    /// The response to AskText: the error 0 with at most 1,023 bytes, none of them zero, or 14 or 63
+    /// with none.
     GotText {
         index: u32,
         err: u32,

@@ -22,12 +22,14 @@ pub fn one_spelling()
 
 /// No spelling is a proper prefix of another.
 pub fn no_prefix()
-    ensures { (f g : Frame) (more : List ℕ) → Fits f → Fits g → spelling g ≡ spelling f ++ more → more ≡ [] }
+    ensures { (f g : Frame) (more : List ℕ) → Fits f → Fits g
+        → spelling g ≡ spelling f ++ more → more ≡ [] }
 {}
 
 /// Bytes are the spellings of one list of frames, with one rest that no spelling begins.
 pub fn one_whole()
-    ensures { (bytes : List ℕ) (fs gs : List Frame) (r s : List ℕ) → IsWhole bytes fs r → IsWhole bytes gs s → (fs ≡ gs) × (r ≡ s) }
+    ensures { (bytes : List ℕ) (fs gs : List Frame) (r s : List ℕ)
+        → IsWhole bytes fs r → IsWhole bytes gs s → (fs ≡ gs) × (r ≡ s) }
 {}
 
 /// Bytes begin with at most one fault.

@@ -1,6 +1,7 @@
 //! Frames: the messages between a server and its clients, as bytes and back.
 //!
-//! `encode` spells a frame, and a `Framer` gives the frames back from a stream of bytes, however it is cut.
+//! `encode` spells a frame, and a `Framer` gives the frames back from a stream of bytes, however the
+//! stream is cut.
 #![tactic(auto)]
 
 mod banner;

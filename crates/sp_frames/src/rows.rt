@@ -1,4 +1,5 @@
-//! The rows of the table of frames, as a reader meets them: class, type and word, and the payload's length.
+//! The rows of the table of frames, as a reader meets them: class, type and word, and the length of
+//! the payload.
 ghost use Rattle.std.specs.Prelude.{◌≡◌, ◌-◌, ◌≤◌, true, OnOk, IfOk};
 ghost use Rattle.sp_frames.specs.Reading.{allows, layout_of, is_of, has_word, has_size, row_at, has_kind, row_or, row_of};
 

@@ -13,7 +13,15 @@ pub record SourceState : Type 0 where
 
 -- a source of these bytes, whose calls of these numbers are to fail
 abbrev pub fresh_source : List ℕ → List ℕ → SourceState
-fresh_source bytes fails = record { passed = []; left = bytes; ended = false; fails = fails; calls = 0; faults = 0; is_done = false }
+fresh_source bytes fails = record {
+  passed = [];
+  left = bytes;
+  ended = false;
+  fails = fails;
+  calls = 0;
+  faults = 0;
+  is_done = false;
+}
 
 -- a sink in memory: the bytes that it took, and its calls of put
 pub record SinkState : Type 0 where

@@ -21,13 +21,14 @@ pub trait Salt: Sized {
     /// The numbers that `next` answered so far, in order, where it tells them.
     ghost drawn: { Self → Option (List ℕ) };
 
-    /// Another salt of the same kind, for a connection of its own: no call of it failed, nothing was
-    /// drawn of it, and it tells what is drawn exactly where this one does.
+    /// Another salt of the same kind, for a connection of its own: no call of it failed, nothing
+    /// was drawn of it, and it tells what is drawn exactly where this one does.
     fn another(&self, alloc: Global) -> Result<Self, NoMemory>
         ensures faults { IfOk result (λ other. faults other ≡ 0) }
         ensures drawn { IfOk result (λ other. drawn other ≡ option_map (λ _. []) (drawn self.now)) };
 
-    /// Takes back one that `another` gave: where a call of that one failed, this counts as one fault here.
+    /// Takes back one that `another` gave: where a call of that one failed, this counts as one fault
+    /// here.
     fn back(&mut self, other: Self)
         ensures faults { faults self.new ≡ with_fault_of (faults other) (faults self.old) }
         ensures drawn { drawn self.new ≡ drawn self.old };
@@ -36,7 +37,8 @@ pub trait Salt: Sized {
     ///
     /// Failed comes only where the count of faults rose, and draws nothing.
     fn next(&mut self) -> Result<u64, Failed>
-        ensures drawn { MatchResult result (λ number. Appends (drawn self.old) (drawn self.new) (number ∷ []))
+        ensures drawn { MatchResult result
+            (λ number. Appends (drawn self.old) (drawn self.new) (number ∷ []))
             (λ _. Keeps (drawn self.old) (drawn self.new)) }
         ensures cause { HasCause (faults self.old) (faults self.new) result };
 }
@@ -64,7 +66,8 @@ impl Model for MemSalt {
 impl MemSalt {
     ghost use Rattle.sp_io.specs.Memory.{fresh_salt};
 
-    /// A salt that counts up from this number. The calls of `next` whose numbers, from 0, are in `fails` answer Failed.
+    /// A salt that counts up from this number. The calls of `next` whose numbers, from 0, are in
+    /// `fails` answer Failed.
     pub fn of(alloc: Global, first: u64, fails: &[u64]) -> Result<MemSalt, NoMemory>
         ensures { IfOk result (λ salt. salt ≡ fresh_salt first fails.now) }
     {
@@ -97,13 +100,15 @@ impl Salt for MemSalt {
         self.faults.raise_for(&other.faults);
     }
 
-    /// The next number. The calls that are told to fail do, and no others before 2^64 - 1 numbers were given.
+    /// The next number. The calls that are told to fail do, and no others before 2^64 - 1 numbers
+    /// were given.
     fn next(&mut self) -> Result<u64, Failed>
         // which calls fail, and what the others give
         ensures fails { IsErr result
             ↔ (Contains self.old.fails self.old.calls ⊎ (self.old.given ≡ 2 ^ 64 - 1)) }
         ensures number { IfOk result (λ number. number ≡ (self.old.first + self.old.given) % 2 ^ 64) }
-        ensures drawn { MatchResult result (λ number. drawn_of self.new ≡ drawn_of self.old ++ number ∷ [])
+        ensures drawn { MatchResult result
+            (λ number. drawn_of self.new ≡ drawn_of self.old ++ number ∷ [])
             (λ _. drawn_of self.new ≡ drawn_of self.old) }
         ensures given { MatchResult result (λ _. self.new.given ≡ self.old.given + 1)
             (λ _. self.new.given ≡ self.old.given) }

@@ -32,7 +32,8 @@ pub trait Sink {
         requires { is_done self.old ≡ false }
         ensures most { IfOk result (λ count. count ≤ length piece.now) }
         ensures some { IfOk result (λ count. count ≡ 0 → piece.now ≡ []) }
-        ensures held { MatchResult result (λ count. Appends (held self.old) (held self.new) (take count piece.now))
+        ensures held { MatchResult result
+            (λ count. Appends (held self.old) (held self.new) (take count piece.now))
             (λ _. Keeps (held self.old) (held self.new)) }
         ensures open { is_done self.new ≡ false }
         ensures cause { HasCause (faults self.old) (faults self.new) result };
@@ -102,7 +103,8 @@ impl Sink for MemSink {
         // which calls fail, and how many bytes the others take
         ensures fails { Contains self.old.fails self.old.calls → IsErr result }
         ensures count { IfOk result (λ count. count ≡ min (length piece.now) 65536) }
-        ensures held { MatchResult result (λ count. self.new.held ≡ self.old.held ++ take count piece.now)
+        ensures held { MatchResult result
+            (λ count. self.new.held ≡ self.old.held ++ take count piece.now)
             (λ _. self.new.held ≡ self.old.held) }
         ensures open { self.new.is_done ≡ false }
 
@@ -184,10 +186,12 @@ impl<W: Write> Sink for WriteSink<W> {
         requires { writing_is_done self.old ≡ false }
         ensures most { IfOk result (λ count. count ≤ length piece.now) }
         ensures some { IfOk result (λ count. count ≡ 0 → piece.now ≡ []) }
-        ensures written { IfOk result (λ count.
-            Appends (W.contents (writer_of self.old)) (W.contents (writer_of self.new)) (take count piece.now)) }
-        ensures front { OnErr result
-            (AppendsFirst (W.contents (writer_of self.old)) (W.contents (writer_of self.new)) piece.now) }
+        ensures written { let before = W.contents (writer_of self.old) in
+            let after = W.contents (writer_of self.new) in
+            IfOk result (λ count. Appends before after (take count piece.now)) }
+        ensures front { let before = W.contents (writer_of self.old) in
+            let after = W.contents (writer_of self.new) in
+            OnErr result (AppendsFirst before after piece.now) }
         ensures open { writing_is_done self.new ≡ false }
         ensures cause { HasCause (write_faults self.old) (write_faults self.new) result }
     {

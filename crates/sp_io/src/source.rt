@@ -40,7 +40,8 @@ pub trait Source {
         ensures most { IfOk result (λ piece. length piece ≤ max) }
         ensures left { MatchResult result (λ piece. Consumes (left self.old) (left self.new) piece)
             (λ _. Keeps (left self.old) (left self.new)) }
-        ensures passed { MatchResult result (λ piece. Appends (passed self.old) (passed self.new) piece)
+        ensures passed { MatchResult result
+            (λ piece. Appends (passed self.old) (passed self.new) piece)
             (λ _. Keeps (passed self.old) (passed self.new)) }
         ensures end { IfOk result (λ piece. piece ≡ [] → IsAtEnd (left self.old)) }
         ensures ended { IfOk result (λ piece. piece ≡ [] → ended self.new ≡ true) }
@@ -86,7 +87,8 @@ impl Model for MemSource {
 impl MemSource {
     ghost use Rattle.sp_io.specs.Memory.{fresh_source};
 
-    /// A source of these bytes. The calls of `take` whose numbers, from 0, are in `fails` answer Failed.
+    /// A source of these bytes. The calls of `take` whose numbers, from 0, are in `fails` answer
+    /// Failed.
     pub fn of(alloc: Global, bytes: &[u8], fails: &[u64]) -> Result<MemSource, NoMemory>
         ensures { IfOk result (λ source. source ≡ fresh_source bytes.now fails.now) }
     {
@@ -210,7 +212,8 @@ impl<R: Read> Source for ReadSource<R> {
         ensures read { let before = R.remaining (reader_of self.old) in
             let after = R.remaining (reader_of self.new) in
             MatchResult result (λ piece. Consumes before after piece) (λ _. Keeps before after) }
-        ensures end { IfOk result (λ piece. piece ≡ [] → IsAtEnd (R.remaining (reader_of self.new))) }
+        ensures end { IfOk result (λ piece.
+            piece ≡ [] → IsAtEnd (R.remaining (reader_of self.new))) }
         ensures ended { IfOk result (λ piece. piece ≡ [] → has_ended self.new ≡ true) }
         ensures stays { has_ended self.old ≡ true → has_ended self.new ≡ true }
         ensures only_then { has_ended self.new ≡ true
