@@ -243,6 +243,8 @@ impl Opens {
         requires { IsSome (at self.old.processes pid.0) }
         ensures closed { self.new ≡ close_row self.old pid.0 fd }
         ensures gone { result ≡ closed_file self.old pid.0 fd }
+        ensures unused { at (rows_of self.new pid.0) fd ≡ None }
+        ensures others { (k : ℕ) → k ≢ fd → at (rows_of self.new pid.0) k ≡ at (rows_of self.old pid.0) k }
         ensures live { IsSome (at self.new.processes pid.0) }
     {
         let Some(key) = self.procs.close(pid, fd) else {
@@ -275,7 +277,7 @@ impl Opens {
     /// Ends a process that has no rows left.
     pub fn end(&mut self, pid: Pid)
         requires live { IsSome (at self.old.processes pid.0) }
-        requires closed { (fd : ℕ) → at (rows_of self.old pid.0) fd ≡ None }
+        requires closed { (fd : ℕ) → fd < 128 → at (rows_of self.old pid.0) fd ≡ None }
         ensures { self.new ≡ with_process self.old pid.0 None }
     {
         self.procs.end(pid);

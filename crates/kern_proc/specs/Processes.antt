@@ -1,5 +1,5 @@
 -- The processes by number: what stands for one of them, and what they are after a change.
-use Rattle.std.specs.Prelude.{ℕ, Bool, true, false, not, ◌||◌, List, Option, None, Some, slice_set}
+use Rattle.std.specs.Prelude.{ℕ, Bool, false, not, ◌||◌, List, Option, None, Some, slice_set}
 use Rattle.std.specs.List.{list_any, position_from}
 use Rattle.sp_base.specs.declared.names.FileNo.{FileNo}
 use Rattle.sp_base.specs.Table.{at}

@@ -254,7 +254,7 @@ impl Procs {
     /// Ends a process that has no rows left.
     pub fn end(&mut self, pid: Pid)
         requires live { IsSome (at self.old pid.0) }
-        requires closed { (fd : ℕ) → at (rows_at self.old pid.0) fd ≡ None }
+        requires closed { (fd : ℕ) → fd < 128 → at (rows_at self.old pid.0) fd ≡ None }
         ensures { self.new ≡ slice_set self.old pid.0 None }
     {
         self.processes[pid.0 as usize] = None;
