@@ -1,5 +1,5 @@
 -- What a contract sees of an `Opens`, and what it is after a change.
-use Rattle.std.specs.Prelude.{ℕ, ◌-◌, Bool, List, [], ◌∷◌, ◌++◌, length, Option, None, Some, slice_set, replicate, refl, if◌then◌else◌}
+use Rattle.std.specs.Prelude.{ℕ, ◌-◌, Bool, false, List, [], ◌∷◌, ◌++◌, length, Option, None, Some, slice_set, replicate, refl, if◌then◌else◌}
 use Rattle.std.specs.List.{list_any}
 use Rattle.std.specs.Coded.{Coded, code_by, coded×, coded_ℕ, coded_list, coded_option}
 use Rattle.sp_base.specs.Table.{at}
@@ -37,6 +37,10 @@ with_process t pid process = record t { processes = slice_set t.processes pid pr
 -- the tables with another row, or none, at a descriptor of a process
 abbrev pub with_row : OpenTables → ℕ → ℕ → Option Row → OpenTables
 with_row t pid fd row = record t { processes = set_row t.processes pid fd row }
+
+-- a row of the same open file, with the close-on-exec flag clear
+abbrev pub duplicate_of : Row → Option Row
+duplicate_of row = Some (record row { close_on_exec = false })
 
 -- some row of some process is of an open file
 abbrev pub is_held : OpenTables → ℕ → Bool

@@ -22,6 +22,10 @@ process_in node = record fresh_process { directory = node }
 abbrev pub is_worked_in : List (Option Process) → ℕ → Bool
 is_worked_in processes node = list_any (is_directory_of node) processes
 
+-- a row of an open file, with this close-on-exec flag
+abbrev pub row_of : FileNo → Bool → Option Row
+row_of file flag = Some (record { file = file.0; close_on_exec = flag })
+
 -- the open file that a row is of
 abbrev pub file_of : Option Row → Option FileNo
 file_of None = None
