@@ -1,5 +1,5 @@
 -- What a change of the rows and of the open files is to a kernel.
-use Rattle.std.proofs.Common.{◌≡◌, ◌≢◌, ℕ, zero, suc, ◌+◌, ◌-◌, ◌*◌, ◌<◌, ◌≤◌, Bool, true, false, List, [], ◌∷◌, ◌++◌, length, map, Option, Some, None, cond, count_by, refl, sym, ap, ◌∙◌, ◌⊎◌, inl, inr, IsSome, arith, subst, length-append}
+use Rattle.std.proofs.Common.{◌≡◌, ◌≢◌, ℕ, suc, ◌+◌, ◌-◌, ◌<◌, Bool, true, false, List, [], ◌∷◌, ◌++◌, length, map, Option, Some, None, cond, refl, sym, ap, ◌∙◌, inl, inr, IsSome, arith, subst}
 use Rattle.std.specs.Prelude.{slice_set}
 use Rattle.std.proofs.lemmas.Option.{none-some}
 use Rattle.std.proofs.lemmas.Bool.{cases_eq}
@@ -12,13 +12,13 @@ use Rattle.kern_model.specs.declared.node.Row.{Row}
 use Rattle.kern_model.specs.State.{Process}
 use Rattle.kern_proc.specs.Processes.{rows_at, set_row, flag_of}
 use Rattle.kern_proc.specs.Processes as proc
-use Rattle.numbered.specs.Book.{Book, IsBook, Adds, number_at, item_at, with_value}
+use Rattle.numbered.specs.Book.{Book, IsBook, Adds, number_at, with_value}
 use Rattle.kern_open.specs.declared.shared.Shared.{Shared}
 use Rattle.kern_open.specs.OpenTables.{OpenTables, rows_of, with_row, with_process, is_held, file_of, replace_file, let_go, let_go_file, close_row_by, close_row, closed_by, closed_file, open_at}
-use Rattle.kern_open.specs.Counted.{renamed_row, renamed_process, renamed, or_zero, number_of_key, file_in, tables_of, shared_at, row_count, IsCounted, Holds}
-use Rattle.kern_open.proofs.Renames.{at_map, at_renamed, row_renamed, unused_row, set_row-renamed, set_process-renamed, renamed_same, names, names-renamed}
+use Rattle.kern_open.specs.Counted.{renamed_row, renamed_process, renamed, or_zero, number_of_key, file_in, tables_of, shared_at, row_count, IsCounted}
+use Rattle.kern_open.proofs.Renames.{row_renamed, unused_row, set_row-renamed, set_process-renamed, renamed_same, names, names-renamed}
 use Rattle.kern_open.proofs.Counts.{one_of, row_count-set_row, row_count_none, counted_row, names_of_none, names_of_some, within}
-use Rattle.kern_open.proofs.Books.{Puts, is_some_of, some_of, has_number, has_value, files_put, files_kept, file_at, number_is}
+use Rattle.kern_open.proofs.Books.{Puts, is_some_of, some_of, has_number, files_put, files_kept, file_at, number_is}
 use Rattle.kern_open.proofs.Kept.{counted_after, row_cases, row_counts}
 
 abbrev pub tables : List (Option Process) → List (Option OpenFile) → ℕ → OpenTables

@@ -1,12 +1,11 @@
 -- How many rows name a key.
-use Rattle.std.proofs.Common.{◌≡◌, ◌≢◌, ℕ, zero, suc, ◌+◌, ◌*◌, ◌<◌, ◌≤◌, ◌==◌, ◌||◌, Bool, true, false, List, [], ◌∷◌, length, take, drop, Option, Some, None, is_none, cond, count_by, sum_by, refl, sym, ap, ◌∙◌, ◌⊎◌, inl, inr, IsSome, arith, subst, All}
+use Rattle.std.proofs.Common.{◌≡◌, ◌≢◌, ℕ, zero, suc, ◌+◌, ◌*◌, ◌<◌, ◌≤◌, ◌==◌, ◌||◌, Bool, true, false, List, [], ◌∷◌, length, Option, Some, None, cond, count_by, refl, sym, ap, ◌∙◌, arith}
 use Rattle.std.specs.Prelude.{slice_set}
 use Rattle.std.specs.List.{list_any}
 use Rattle.std.proofs.lemmas.Bool.Decides.{nat_tests}
-use Rattle.std.proofs.lemmas.List.{length-set, get_or_past}
-use Rattle.std.proofs.lemmas.List.Sums.{sum_by-cons, sum_by-set, count_by-le-length, get_or-le-sum_by}
-use Rattle.sp_base.specs.Table.{at, lowest_unused}
-use Rattle.sp_base.proofs.TableLaws.{at_other, at_same, at_within, lowest_unused_is}
+use Rattle.std.proofs.lemmas.List.{get_or_past}
+use Rattle.std.proofs.lemmas.List.Sums.{sum_by-cons, sum_by-set, count_by-le-length}
+use Rattle.sp_base.specs.Table.{at}
 use Rattle.kern_model.specs.declared.node.Row.{Row}
 use Rattle.kern_model.specs.State.{Process, rows_in, replace_rows, is_row_of}
 use Rattle.kern_proc.specs.Processes.{rows_at, set_row}

@@ -1,20 +1,19 @@
 -- The rows are counted after a change.
-use Rattle.std.proofs.Common.{◌≡◌, ◌≢◌, ℕ, zero, suc, ◌+◌, ◌*◌, ◌<◌, ◌≤◌, Bool, true, false, List, [], ◌∷◌, length, map, Option, Some, None, cond, count_by, sum_by, refl, sym, ap, ◌∙◌, ◌⊎◌, inl, inr, IsSome, arith, subst}
+use Rattle.std.proofs.Common.{◌≡◌, ◌≢◌, ℕ, zero, suc, ◌<◌, List, [], ◌∷◌, length, Option, Some, None, refl, sym, ap, ◌∙◌, ◌⊎◌, inl, inr, IsSome, arith, subst}
 use Rattle.std.specs.Prelude.{slice_set}
 use Rattle.std.proofs.lemmas.Bool.{cases_eq}
-use Rattle.std.proofs.lemmas.Option.{none-some}
-use Rattle.std.proofs.lemmas.List.{length-set, get_or-set_same, get_or-set_other}
+use Rattle.std.proofs.lemmas.List.{length-set}
 use Rattle.std.proofs.lemmas.List.Sums.{get_or-le-sum_by}
 use Rattle.sp_base.specs.Table.{at}
-use Rattle.sp_base.proofs.TableLaws.{at_other, at_within}
+use Rattle.sp_base.proofs.TableLaws.{at_other}
 use Rattle.kern_model.specs.declared.node.Row.{Row}
-use Rattle.kern_model.specs.State.{Process, rows_in, replace_rows, is_row_of}
+use Rattle.kern_model.specs.State.{Process, rows_in, replace_rows}
 use Rattle.kern_proc.specs.Processes.{rows_at, set_row}
 use Rattle.numbered.specs.Book.{Book}
 use Rattle.kern_open.specs.declared.shared.Shared.{Shared}
 use Rattle.kern_open.specs.Counted.{shared_at, row_count, IsCounted}
 use Rattle.kern_open.proofs.Counts.{one_of, rows_for, within, row_count-set_row, counted_row}
-use Rattle.kern_open.proofs.Books.{Puts, is_some_of, some_of}
+use Rattle.kern_open.proofs.Books.{Puts, is_some_of}
 
 -- what a write leaves is the new thing, or was there
 set_cases : {X : Type 0} (xs : List (Option X)) (n m : ℕ) (y : Option X) (x : X) → at (slice_set xs n y) m ≡ Some x → (y ≡ Some x) ⊎ (at xs m ≡ Some x)

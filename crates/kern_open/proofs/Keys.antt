@@ -1,7 +1,6 @@
 -- The changes of open files, where a key is known to be a row's.
-use Rattle.std.proofs.Common.{◌≡◌, ◌≢◌, ℕ, zero, suc, cond, ◌+◌, ◌-◌, ◌<◌, ◌≤◌, ◌^◌, Bool, true, false, List, [], ◌∷◌, length, Option, Some, None, replicate, refl, sym, ap, ◌∙◌, IsSome, arith, subst, inl, inr}
+use Rattle.std.proofs.Common.{◌≡◌, ◌≢◌, ℕ, zero, suc, cond, ◌+◌, ◌<◌, Bool, true, false, List, [], ◌∷◌, length, Option, Some, None, replicate, refl, sym, ap, ◌∙◌, IsSome, arith, subst}
 use Rattle.std.specs.Prelude.{slice_set}
-use Rattle.std.proofs.lemmas.Bool.{cases_eq}
 use Rattle.std.proofs.lemmas.Option.{none-some}
 use Rattle.sp_base.specs.declared.names.FileNo.{FileNo}
 use Rattle.sp_base.specs.Table.{at, lowest_unused}
@@ -14,10 +13,10 @@ use Rattle.kern_proc.specs.Processes as proc
 use Rattle.numbered.specs.Book.{Book, IsBook, Adds, number_at, with_value, put_at}
 use Rattle.kern_open.specs.declared.shared.Shared.{Shared}
 use Rattle.kern_open.specs.OpenTables.{OpenTables, rows_of, with_row, replace_file, is_held, let_go, close_row_by, close_row, closed_file, open_at}
-use Rattle.kern_open.specs.Counted.{tables_of, shared_at, row_count, IsCounted}
-use Rattle.kern_open.proofs.Books.{Puts, has_number, some_of, puts_value, puts_none, puts_added}
+use Rattle.kern_open.specs.Counted.{tables_of, shared_at, IsCounted}
+use Rattle.kern_open.proofs.Books.{has_number, puts_value, puts_none, puts_added}
 use Rattle.kern_open.proofs.Kept.{row_counts}
-use Rattle.kern_open.proofs.Changes.{key_row, held_by, count_gone, counted_new, counted_gone, counted_same, vacant_count, duplicate_is, set_file_is, open_is, close_kept, close_last}
+use Rattle.kern_open.proofs.Changes.{key_row, held_by, counted_new, counted_gone, counted_same, vacant_count, duplicate_is, set_file_is, open_is, close_kept, close_last}
 
 -- no process and no open file
 pub counted_fresh : (ps : List (Option Process)) (b : Book Shared) → ps ≡ replicate 258 None → b ≡ record { items = []; numbers = []; room = 0 } → IsCounted ps b

@@ -5,3 +5,4 @@ pub mod Changes
 pub mod Kept
 pub mod Lives
 pub mod Keys
+pub mod KernelSteps

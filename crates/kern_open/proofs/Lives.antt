@@ -1,18 +1,17 @@
 -- What it is to a kernel that a process comes, goes or moves.
-use Rattle.std.proofs.Common.{◌≡◌, ◌≢◌, ℕ, zero, suc, ◌+◌, ◌*◌, ◌<◌, ◌≤◌, ◌^◌, ◌||◌, Bool, true, false, List, [], ◌∷◌, length, map, take, replicate, Option, Some, None, cond, count_by, refl, sym, ap, ◌∙◌, ◌⊎◌, inl, inr, IsSome, arith, subst, take_all}
+use Rattle.std.proofs.Common.{◌≡◌, ◌≢◌, ℕ, zero, suc, ◌+◌, ◌<◌, ◌≤◌, ◌^◌, ◌||◌, true, false, List, [], ◌∷◌, length, map, take, replicate, Option, Some, None, count_by, refl, sym, ap, ◌∙◌, ◌⊎◌, inl, inr, IsSome, arith, subst}
 use Rattle.std.specs.Prelude.{slice_set}
-use Rattle.std.specs.List.{list_any}
 use Rattle.std.proofs.lemmas.Option.{none-some}
-use Rattle.std.proofs.lemmas.Bool.{cases_eq}
+use Rattle.std.proofs.lemmas.Bool.{cases_eq, cases_lt}
 use Rattle.std.proofs.lemmas.Bool.Decides.{nat_tests}
-use Rattle.std.proofs.lemmas.List.{length-set, length-take-le}
+use Rattle.std.proofs.lemmas.List.{length-set, length-take-le, get_or_past}
 use Rattle.std.proofs.lemmas.List.Sums.{count_by_more_no, count_by_more_yes, count_by-le-length, sum_by-set}
 use Rattle.sp_base.specs.declared.names.FileNo.{FileNo}
 use Rattle.sp_base.specs.Table.{at, lowest_unused}
 use Rattle.sp_base.proofs.TableLaws.{at_blank, at_within, lowest_unused_is}
 use Rattle.kern_model.specs.declared.node.OpenFile.{OpenFile}
 use Rattle.kern_model.specs.declared.node.Row.{Row}
-use Rattle.kern_model.specs.State.{Process, rows_in, replace_directory, is_row_of, is_directory_of, fresh_process}
+use Rattle.kern_model.specs.State.{Process, rows_in, replace_directory, is_row_of, is_directory_of}
 use Rattle.kern_proc.specs.Processes.{rows_at, set_row, is_worked_in, process_in}
 use Rattle.kern_proc.specs.Processes as proc
 use Rattle.numbered.specs.Book.{Book, IsBook, number_at, item_at, with_value}
@@ -118,11 +117,19 @@ counted_attach ps b pid ok u =
     omega (arith, ok.counted key s e, row_count-add ps pid key (Some (process_in 1)) free.0 free.1, none))
     (λ h. refl)
 
-pub counted_end : (ps : List (Option Process)) (b : Book Shared) (pid : ℕ) → IsCounted ps b → IsSome (at ps pid) → ((fd : ℕ) → at (rows_at ps pid) fd ≡ None) → IsCounted (slice_set ps pid None) b
+-- nothing is past the descriptors
+unused_all : (rows : List (Option Row)) → length rows ≡ 128 → ((fd : ℕ) → fd < 128 → at rows fd ≡ None) → (fd : ℕ) → at rows fd ≡ None
+unused_all rows long closed fd =
+    elim (cases_lt fd 128) [
+      | inl lt ↦ closed fd lt
+      | inr ge ↦ grind (arith, get_or_past)
+    ]
+
+pub counted_end : (ps : List (Option Process)) (b : Book Shared) (pid : ℕ) → IsCounted ps b → IsSome (at ps pid) → ((fd : ℕ) → fd < 128 → at (rows_at ps pid) fd ≡ None) → IsCounted (slice_set ps pid None) b
 counted_end ps b pid ok live closed =
     let p = some_of (at ps pid) live in
     process_after ps b b pid None ok (λ d row e. absurd cc) (λ key h. h)
-    (λ key s e. ok.counted key s e ∙ sym (row_count-end ps pid key (within ps pid p.0 p.1) closed))
+    (λ key s e. ok.counted key s e ∙ sym (row_count-end ps pid key (within ps pid p.0 p.1) (unused_all (rows_at ps pid) (ok.rows pid live) closed)))
     (λ h. absurd cc)
 
 same_rows : (o : Option Process) (node : ℕ) → rows_in (replace_directory o node) ≡ rows_in o

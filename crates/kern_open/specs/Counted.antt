@@ -1,5 +1,5 @@
 -- How an `Opens` keeps open files: rows name them by keys, and each is kept with the count of the rows that name it.
-use Rattle.std.specs.Prelude.{◌≡◌, ℕ, ◌+◌, ◌<◌, ◌≤◌, List, [], ◌∷◌, Option, Some, None, IsSome, map, length, sum_by, count_by}
+use Rattle.std.specs.Prelude.{◌≡◌, ℕ, ◌+◌, List, Option, Some, None, IsSome, map, length, sum_by, count_by}
 use Rattle.sp_base.specs.Table.{at}
 use Rattle.kern_model.specs.declared.node.Row.{Row}
 use Rattle.kern_model.specs.declared.node.OpenFile.{OpenFile}

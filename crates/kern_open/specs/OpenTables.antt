@@ -38,6 +38,10 @@ with_process t pid process = record t { processes = slice_set t.processes pid pr
 abbrev pub with_row : OpenTables → ℕ → ℕ → Option Row → OpenTables
 with_row t pid fd row = record t { processes = set_row t.processes pid fd row }
 
+-- a row of the same open file, with the close-on-exec flag clear
+abbrev pub duplicate_of : Row → Option Row
+duplicate_of row = Some (record row { close_on_exec = false })
+
 -- some row of some process is of an open file
 abbrev pub is_held : OpenTables → ℕ → Bool
 is_held t number = list_any (λ process. list_any (is_row_of number) (rows_in process)) t.processes

@@ -3,7 +3,7 @@ ghost use Rattle.sp_base.specs.Table.{at, lowest_unused};
 ghost use Rattle.kern_model.specs.declared.node.Row.{Row as RowOf};
 ghost use Rattle.kern_model.specs.State.{fresh_process, replace_directory};
 ghost use Rattle.kern_proc.specs.Processes.{is_worked_in};
-ghost use Rattle.kern_open.specs.OpenTables.{OpenTables, no_tables, rows_of, with_process, with_row, file_of, replace_file, close_row, closed_file, open_at};
+ghost use Rattle.kern_open.specs.OpenTables.{OpenTables, no_tables, rows_of, with_process, with_row, duplicate_of, file_of, replace_file, close_row, closed_file, open_at};
 
 use crate::shared::{Shared, hold, hold_rows};
 use kern_model::{OpenFile, Row};
@@ -13,8 +13,9 @@ use sp_base::{Fd, FileNo, NoMemory, NodeNo, Pid};
 use std::alloc::Global;
 use std::marker::Model;
 
-/// The processes, and the open files that their rows share. An open file is counted by the rows that
-/// are of it, and goes with the last of them. Only `fresh`, `attach`, `fork` and `reserve` take memory.
+/// The processes, and the open files that their rows share. An open file is counted by the rows
+/// that are of it, and goes with the last of them. Only `fresh`, `attach`, `fork` and `reserve` take
+/// memory.
 #[derive(Drop)]
 pub struct Opens {
     procs: Procs,
@@ -74,7 +75,8 @@ impl Opens {
     /// error leaves all as it was.
     pub fn attach(&mut self) -> Result<Pid, ProcFault>
         ensures number { IfOk result (λ pid. lowest_unused self.old.processes 2 ≡ Some pid.0) }
-        ensures made { IfOk result (λ pid. self.new ≡ with_process self.old pid.0 (Some fresh_process)) }
+        ensures made { IfOk result (λ pid.
+            self.new ≡ with_process self.old pid.0 (Some fresh_process)) }
         ensures full { (result ≡ Err ProcFault.Full) ↔ (lowest_unused self.old.processes 2 ≡ None) }
         ensures err { OnErr result (self.new ≡ self.old) }
     {
@@ -87,7 +89,8 @@ impl Opens {
     pub fn fork(&mut self, parent: Pid) -> Result<Pid, ProcFault>
         requires { IsSome (at self.old.processes parent.0) }
         ensures number { IfOk result (λ child. lowest_unused self.old.processes 2 ≡ Some child.0) }
-        ensures made { IfOk result (λ child. self.new ≡ with_process self.old child.0 (at self.old.processes parent.0)) }
+        ensures made { IfOk result (λ child.
+            self.new ≡ with_process self.old child.0 (at self.old.processes parent.0)) }
         ensures full { (result ≡ Err ProcFault.Full) ↔ (lowest_unused self.old.processes 2 ≡ None) }
         ensures err { OnErr result (self.new ≡ self.old) }
     {
@@ -135,7 +138,8 @@ impl Opens {
     pub fn set_file(&mut self, pid: Pid, fd: u64, file: OpenFile)
         requires live { IsSome (at self.old.processes pid.0) }
         requires open { IsSome (at (rows_of self.old pid.0) fd) }
-        ensures { (row : RowOf) → at (rows_of self.old pid.0) fd ≡ Some row → self.new ≡ replace_file self.old row.file file }
+        ensures { (row : RowOf) → at (rows_of self.old pid.0) fd ≡ Some row →
+            self.new ≡ replace_file self.old row.file file }
     {
         let Some(key) = self.procs.lookup(pid, fd) else {
             return;
@@ -153,7 +157,8 @@ impl Opens {
     /// The lowest unused descriptor from `least` on. None exactly where there is none below 128.
     pub fn lowest_unused(&self, pid: Pid, least: u64) -> Option<Fd>
         requires { IsSome (at self.now.processes pid.0) }
-        ensures which { IfSome result (λ fd. lowest_unused (rows_of self.now pid.0) least ≡ Some fd.0) }
+        ensures which { IfSome result (λ fd.
+            lowest_unused (rows_of self.now pid.0) least ≡ Some fd.0) }
         ensures none { IfNone result (lowest_unused (rows_of self.now pid.0) least ≡ None) }
         ensures below { IfSome result (λ fd. fd.0 < 128) }
     {
@@ -192,8 +197,10 @@ impl Opens {
     pub fn duplicate(&mut self, pid: Pid, fd: u64, least: u64) -> Option<Fd>
         requires live { IsSome (at self.old.processes pid.0) }
         requires open { IsSome (at (rows_of self.old pid.0) fd) }
-        ensures which { IfSome result (λ to. lowest_unused (rows_of self.old pid.0) least ≡ Some to.0) }
-        ensures made { (row : RowOf) → at (rows_of self.old pid.0) fd ≡ Some row → IfSome result (λ to. self.new ≡ with_row self.old pid.0 to.0 (Some (record row { close_on_exec = false }))) }
+        ensures which { IfSome result (λ to.
+            lowest_unused (rows_of self.old pid.0) least ≡ Some to.0) }
+        ensures made { (row : RowOf) → at (rows_of self.old pid.0) fd ≡ Some row →
+            IfSome result (λ to. self.new ≡ with_row self.old pid.0 to.0 (duplicate_of row)) }
         ensures full { IfNone result (lowest_unused (rows_of self.old pid.0) least ≡ None) }
         ensures none { IfNone result (self.new ≡ self.old) }
     {
@@ -213,7 +220,8 @@ impl Opens {
         requires open { IsSome (at (rows_of self.old pid.0) fd) }
         requires unused { at (rows_of self.old pid.0) to.0 ≡ None }
         requires below { to.0 < 128 }
-        ensures { (row : RowOf) → at (rows_of self.old pid.0) fd ≡ Some row → self.new ≡ with_row self.old pid.0 to.0 (Some (record row { close_on_exec = false })) }
+        ensures { (row : RowOf) → at (rows_of self.old pid.0) fd ≡ Some row →
+            self.new ≡ with_row self.old pid.0 to.0 (duplicate_of row) }
     {
         let Some(key) = self.procs.lookup(pid, fd) else {
             return;
@@ -229,7 +237,8 @@ impl Opens {
         requires open { IsSome (at (rows_of self.old pid.0) fd) }
         requires below { to.0 < 128 }
         requires other { fd ≢ to.0 }
-        ensures made { (row : RowOf) → at (rows_of self.old pid.0) fd ≡ Some row → self.new ≡ with_row (close_row self.old pid.0 to.0) pid.0 to.0 (Some (record row { close_on_exec = false })) }
+        ensures made { (row : RowOf) → at (rows_of self.old pid.0) fd ≡ Some row →
+            self.new ≡ with_row (close_row self.old pid.0 to.0) pid.0 to.0 (duplicate_of row) }
         ensures gone { result ≡ closed_file self.old pid.0 to.0 }
     {
         let gone = self.close(pid, u64::from(to.0));
@@ -243,6 +252,9 @@ impl Opens {
         requires { IsSome (at self.old.processes pid.0) }
         ensures closed { self.new ≡ close_row self.old pid.0 fd }
         ensures gone { result ≡ closed_file self.old pid.0 fd }
+        ensures unused { at (rows_of self.new pid.0) fd ≡ None }
+        ensures others { (k : ℕ) → k ≢ fd →
+            at (rows_of self.new pid.0) k ≡ at (rows_of self.old pid.0) k }
         ensures live { IsSome (at self.new.processes pid.0) }
     {
         let Some(key) = self.procs.close(pid, fd) else {
@@ -267,7 +279,8 @@ impl Opens {
     pub fn set_flag(&mut self, pid: Pid, fd: u64, on: bool)
         requires live { IsSome (at self.old.processes pid.0) }
         requires open { IsSome (at (rows_of self.old pid.0) fd) }
-        ensures { (row : RowOf) → at (rows_of self.old pid.0) fd ≡ Some row → self.new ≡ with_row self.old pid.0 fd (Some (record row { close_on_exec = on })) }
+        ensures { (row : RowOf) → at (rows_of self.old pid.0) fd ≡ Some row →
+            self.new ≡ with_row self.old pid.0 fd (Some (record row { close_on_exec = on })) }
     {
         let _ = self.procs.set_cloexec(pid, fd, on);
     }
@@ -275,7 +288,7 @@ impl Opens {
     /// Ends a process that has no rows left.
     pub fn end(&mut self, pid: Pid)
         requires live { IsSome (at self.old.processes pid.0) }
-        requires closed { (fd : ℕ) → at (rows_of self.old pid.0) fd ≡ None }
+        requires closed { (fd : ℕ) → fd < 128 → at (rows_of self.old pid.0) fd ≡ None }
         ensures { self.new ≡ with_process self.old pid.0 None }
     {
         self.procs.end(pid);
@@ -292,7 +305,8 @@ impl Opens {
     /// Goes to another working directory.
     pub fn set_directory(&mut self, pid: Pid, node: NodeNo)
         requires { IsSome (at self.old.processes pid.0) }
-        ensures { self.new ≡ with_process self.old pid.0 (replace_directory (at self.old.processes pid.0) node.0) }
+        ensures { self.new ≡ with_process self.old pid.0
+            (replace_directory (at self.old.processes pid.0) node.0) }
     {
         self.procs.set_cwd(pid, node);
     }

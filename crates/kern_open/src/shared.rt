@@ -20,8 +20,10 @@ pub struct Shared {
 
 /// Counts one row more of what a key holds.
 pub fn hold(files: &mut Numbered<Shared>, key: u64)
-    requires few { (shared : SharedOf) → shared_at files.old key ≡ Some shared → shared.rows < 2 ^ 32 }
-    ensures counted { (shared : SharedOf) → shared_at files.old key ≡ Some shared → files.new ≡ with_value files.old key (record shared { rows = shared.rows + 1 }) }
+    requires few { (shared : SharedOf) → shared_at files.old key ≡ Some shared →
+        shared.rows < 2 ^ 32 }
+    ensures counted { (shared : SharedOf) → shared_at files.old key ≡ Some shared →
+        files.new ≡ with_value files.old key (record shared { rows = shared.rows + 1 }) }
     ensures sound { IsBook files.old }
 {
     let Some(shared) = files.get(key).copied() else {
@@ -38,8 +40,10 @@ pub fn hold(files: &mut Numbered<Shared>, key: u64)
 pub fn hold_rows(procs: &Procs, files: &mut Numbered<Shared>, pid: Pid)
     requires live { IsSome (at procs.now pid.0) }
     requires rows { length (rows_at procs.now pid.0) ≡ 128 }
-    requires held { (fd : ℕ) (row : RowOf) → at (rows_at procs.now pid.0) fd ≡ Some row → IsSome (shared_at files.old row.file) }
-    requires few { (key : ℕ) (shared : SharedOf) → shared_at files.old key ≡ Some shared → shared.rows < 2 ^ 31 }
+    requires held { (fd : ℕ) (row : RowOf) → at (rows_at procs.now pid.0) fd ≡ Some row →
+        IsSome (shared_at files.old row.file) }
+    requires few { (key : ℕ) (shared : SharedOf) → shared_at files.old key ≡ Some shared →
+        shared.rows < 2 ^ 31 }
     ensures { Holds files.old files.new (rows_at procs.now pid.0) }
 {
     for fd in 0..128 {

@@ -1,5 +1,5 @@
 -- The processes by number: what stands for one of them, and what they are after a change.
-use Rattle.std.specs.Prelude.{ℕ, Bool, true, false, not, ◌||◌, List, Option, None, Some, slice_set}
+use Rattle.std.specs.Prelude.{ℕ, Bool, false, not, ◌||◌, List, Option, None, Some, slice_set}
 use Rattle.std.specs.List.{list_any, position_from}
 use Rattle.sp_base.specs.declared.names.FileNo.{FileNo}
 use Rattle.sp_base.specs.Table.{at}
@@ -21,6 +21,10 @@ process_in node = record fresh_process { directory = node }
 -- some process works in a node
 abbrev pub is_worked_in : List (Option Process) → ℕ → Bool
 is_worked_in processes node = list_any (is_directory_of node) processes
+
+-- a row of an open file, with this close-on-exec flag
+abbrev pub row_of : FileNo → Bool → Option Row
+row_of file flag = Some (record { file = file.0; close_on_exec = flag })
 
 -- the open file that a row is of
 abbrev pub file_of : Option Row → Option FileNo

@@ -1,4 +1,5 @@
-//! Processes and their descriptors: who is live, where each works, and which open files its rows are of.
+//! Processes and their descriptors: who is live, where each works, and which open files its rows
+//! are of.
 #![tactic(auto)]
 
 mod fault;

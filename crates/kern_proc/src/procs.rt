@@ -1,7 +1,7 @@
 ghost use Rattle.std.specs.Prelude.{◌≡◌, ◌≢◌, ℕ, ◌<◌, ◌↔◌, is_some, count_by, length, replicate, slice_set, IfOk, OnErr, IfSome, OnSome, IfNone, IsNone, IsSome, IsTrue, None, Some, false};
 ghost use Rattle.sp_base.specs.Table.{at, lowest_unused};
 ghost use Rattle.kern_model.specs.State.{replace_directory};
-ghost use Rattle.kern_proc.specs.Processes.{rows_at, set_row, process_in, is_worked_in, file_of, flag_of, lowest_taken};
+ghost use Rattle.kern_proc.specs.Processes.{rows_at, set_row, process_in, is_worked_in, row_of, file_of, flag_of, lowest_taken};
 
 use crate::fault::ProcFault;
 use crate::rows;
@@ -66,10 +66,12 @@ impl Procs {
         table::lowest_unused(&self.processes, 2).is_none()
     }
 
-    /// A new process with no descriptors, under the lowest unused number. An error leaves all as it was.
+    /// A new process with no descriptors, under the lowest unused number. An error leaves all as it
+    /// was.
     pub fn attach(&mut self, cwd: NodeNo) -> Result<Pid, ProcFault>
         ensures number { IfOk result (λ pid. lowest_unused self.old 2 ≡ Some pid.0) }
-        ensures made { IfOk result (λ pid. self.new ≡ slice_set self.old pid.0 (Some (process_in cwd.0))) }
+        ensures made { IfOk result (λ pid.
+            self.new ≡ slice_set self.old pid.0 (Some (process_in cwd.0))) }
         ensures full { (result ≡ Err ProcFault.Full) ↔ (lowest_unused self.old 2 ≡ None) }
         ensures err { OnErr result (self.new ≡ self.old) }
     {
@@ -89,7 +91,8 @@ impl Procs {
     pub fn fork(&mut self, parent: Pid) -> Result<Pid, ProcFault>
         requires { IsSome (at self.old parent.0) }
         ensures number { IfOk result (λ child. lowest_unused self.old 2 ≡ Some child.0) }
-        ensures made { IfOk result (λ child. self.new ≡ slice_set self.old child.0 (at self.old parent.0)) }
+        ensures made { IfOk result (λ child.
+            self.new ≡ slice_set self.old child.0 (at self.old parent.0)) }
         ensures full { (result ≡ Err ProcFault.Full) ↔ (lowest_unused self.old 2 ≡ None) }
         ensures err { OnErr result (self.new ≡ self.old) }
     {
@@ -143,7 +146,8 @@ impl Procs {
     /// The lowest unused descriptor from `least` on. None exactly where there is none below 128.
     pub fn lowest_unused(&self, pid: Pid, least: u64) -> Option<Fd>
         requires { IsSome (at self.now pid.0) }
-        ensures which { IfSome result (λ fd. lowest_unused (rows_at self.now pid.0) least ≡ Some fd.0) }
+        ensures which { IfSome result (λ fd.
+            lowest_unused (rows_at self.now pid.0) least ≡ Some fd.0) }
         ensures none { IfNone result (lowest_unused (rows_at self.now pid.0) least ≡ None) }
         ensures below { IfSome result (λ fd. fd.0 < 128) }
     {
@@ -157,8 +161,10 @@ impl Procs {
     /// is none below 128; then all stays as it was.
     pub fn install(&mut self, pid: Pid, least: u64, file: FileNo, cloexec: bool) -> Option<Fd>
         requires { IsSome (at self.old pid.0) }
-        ensures which { IfSome result (λ fd. lowest_unused (rows_at self.old pid.0) least ≡ Some fd.0) }
-        ensures made { IfSome result (λ fd. self.new ≡ set_row self.old pid.0 fd.0 (Some (record { file = file.0; close_on_exec = cloexec }))) }
+        ensures which { IfSome result (λ fd.
+            lowest_unused (rows_at self.old pid.0) least ≡ Some fd.0) }
+        ensures made { IfSome result (λ fd.
+            self.new ≡ set_row self.old pid.0 fd.0 (row_of file cloexec)) }
         ensures full { IfNone result (lowest_unused (rows_at self.old pid.0) least ≡ None) }
         ensures none { IfNone result (self.new ≡ self.old) }
     {
@@ -173,12 +179,13 @@ impl Procs {
         Some(fd)
     }
 
-    /// Gives a descriptor to an open file, with the flag clear, and answers the open file that it had.
+    /// Gives a descriptor to an open file, with the flag clear, and answers the open file that it
+    /// had.
     pub fn put_at(&mut self, pid: Pid, fd: Fd, file: FileNo) -> Option<FileNo>
         requires live { IsSome (at self.old pid.0) }
         requires below { fd.0 < 128 }
         ensures before { result ≡ file_of (at (rows_at self.old pid.0) fd.0) }
-        ensures made { self.new ≡ set_row self.old pid.0 fd.0 (Some (record { file = file.0; close_on_exec = false })) }
+        ensures made { self.new ≡ set_row self.old pid.0 fd.0 (row_of file false) }
     {
         let before = self.lookup(pid, u64::from(fd.0));
         let row = Row {
@@ -220,7 +227,8 @@ impl Procs {
     pub fn set_cloexec(&mut self, pid: Pid, fd: u64, on: bool) -> bool
         requires { IsSome (at self.old pid.0) }
         ensures open { IsTrue result ↔ IsSome (at (rows_at self.old pid.0) fd) }
-        ensures set { IfSome (at (rows_at self.old pid.0) fd) (λ row. self.new ≡ set_row self.old pid.0 fd (Some (record row { close_on_exec = on }))) }
+        ensures set { IfSome (at (rows_at self.old pid.0) fd) (λ row.
+            self.new ≡ set_row self.old pid.0 fd (Some (record row { close_on_exec = on }))) }
         ensures none { IfNone (at (rows_at self.old pid.0) fd) (self.new ≡ self.old) }
     {
         let Some(row) = self.row(pid, fd) else {
@@ -238,8 +246,10 @@ impl Procs {
     /// exactly where there is none; then all stays as it was.
     pub fn drop_one(&mut self, pid: Pid, marked_only: bool) -> Option<FileNo>
         requires { IsSome (at self.old pid.0) }
-        ensures found { IfSome (lowest_taken marked_only (rows_at self.old pid.0)) (λ fd. result ≡ file_of (at (rows_at self.old pid.0) fd)) }
-        ensures taken { IfSome (lowest_taken marked_only (rows_at self.old pid.0)) (λ fd. self.new ≡ set_row self.old pid.0 fd None) }
+        ensures found { IfSome (lowest_taken marked_only (rows_at self.old pid.0)) (λ fd.
+            result ≡ file_of (at (rows_at self.old pid.0) fd)) }
+        ensures taken { IfSome (lowest_taken marked_only (rows_at self.old pid.0)) (λ fd.
+            self.new ≡ set_row self.old pid.0 fd None) }
         ensures none { IfNone (lowest_taken marked_only (rows_at self.old pid.0)) (IsNone result) }
         ensures unchanged { IfNone (lowest_taken marked_only (rows_at self.old pid.0)) (self.new ≡ self.old) }
     {
@@ -254,7 +264,7 @@ impl Procs {
     /// Ends a process that has no rows left.
     pub fn end(&mut self, pid: Pid)
         requires live { IsSome (at self.old pid.0) }
-        requires closed { (fd : ℕ) → at (rows_at self.old pid.0) fd ≡ None }
+        requires closed { (fd : ℕ) → fd < 128 → at (rows_at self.old pid.0) fd ≡ None }
         ensures { self.new ≡ slice_set self.old pid.0 None }
     {
         self.processes[pid.0 as usize] = None;

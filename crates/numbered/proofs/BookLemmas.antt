@@ -1,12 +1,12 @@
 -- Lemmas on the values of numbered slots.
-use Rattle.std.proofs.Common.{◌≡◌, ◌≢◌, ℕ, zero, suc, ◌+◌, ◌-◌, ◌<◌, ◌≤◌, Bool, true, false, List, [], ◌∷◌, ◌++◌, length, map, Option, Some, None, cond, count_by, is_some, refl, sym, ap, ◌∙◌, ◌⊎◌, inl, inr, IsSome, arith, rules, subst, length-append}
+use Rattle.std.proofs.Common.{◌≡◌, ◌≢◌, ℕ, zero, suc, ◌+◌, ◌-◌, ◌<◌, List, [], ◌∷◌, ◌++◌, length, map, Option, Some, None, cond, count_by, is_some, refl, sym, ap, ◌∙◌, inl, inr, IsSome, arith, subst, length-append}
 use Rattle.std.proofs.Math.ListN.{set, get_or}
 use Rattle.std.proofs.lemmas.Bool.{cases_eq}
 use Rattle.std.proofs.lemmas.Bool.Decides.{nat_tests}
 use Rattle.std.proofs.lemmas.List.{get_or-set_same, get_or-set_other, get_or_past, length-set, map-set, get_or_append_left as get_or-append_left, get_or-append_right, ext_get_or}
 use Rattle.std.proofs.lemmas.List.Sums.{sum_by-set}
 use Rattle.std.proofs.lemmas.Option.{none-some}
-use Rattle.numbered.specs.Book.{Book, IsBook, Adds, item_at, number_at}
+use Rattle.numbered.specs.Book.{Book, IsBook, Adds, item_at}
 use Rattle.numbered.specs.declared.Item.{Item}
 use Rattle.numbered.specs.Items.{number_of, find, items_of, AreNumbers}
 

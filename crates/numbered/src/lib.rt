@@ -35,7 +35,11 @@ impl<T> Model for Numbered<T> {
 
     ghost use Rattle.numbered.specs.Items.{items_of, number_of, IsNumbered};
 
-    ghost view = { λ n. record { items = items_of n.slots.slots n.next; numbers = map number_of n.slots.slots; room = n.room } };
+    ghost view = { λ n. record {
+      items = items_of n.slots.slots n.next;
+      numbers = map number_of n.slots.slots;
+      room = n.room;
+    } };
 
     ghost invariant = { λ n. IsNumbered n.slots n.next n.room };
 }
@@ -129,7 +133,8 @@ impl<T> Numbered<T> {
     where
         T: Drop,
         requires { IsSome (number_at self.old key) }
-        ensures { (n : ℕ) → number_at self.old key ≡ Some n → self.new ≡ record self.old { items = slice_set self.old.items n (Some value) } }
+        ensures { (n : ℕ) → number_at self.old key ≡ Some n →
+            self.new ≡ record self.old { items = slice_set self.old.items n (Some value) } }
     {
         *self.value_mut(key) = value;
     }
@@ -138,7 +143,10 @@ impl<T> Numbered<T> {
     pub fn remove(&mut self, key: u64) -> T
         requires { IsSome (number_at self.old key) }
         ensures value { Some result ≡ item_at self.old.items (number_at self.old key) }
-        ensures after { (n : ℕ) → number_at self.old key ≡ Some n → self.new ≡ record self.old { items = slice_set self.old.items n None; numbers = slice_set self.old.numbers key None } }
+        ensures after { (n : ℕ) → number_at self.old key ≡ Some n → self.new ≡ record self.old {
+          items = slice_set self.old.items n None;
+          numbers = slice_set self.old.numbers key None;
+        } }
     {
         self.slots.remove(key as usize).value
     }

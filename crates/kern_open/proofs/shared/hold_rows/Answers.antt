@@ -1,11 +1,9 @@
 use Rattle.sp_base.specs.Table.{at}
-use Rattle.std.proofs.Common.{◌≡◌, ◌+◌, Some, List, subst, ap, sym, ◌∙◌, take, take_all, arith}
-use Rattle.kern_model.specs.declared.node.Row.{Row}
+use Rattle.std.proofs.Common.{◌≡◌, ◌+◌, Some, subst, ap, sym, ◌∙◌, take, arith}
 use Rattle.numbered.specs.Book.{Book, with_value}
 use Rattle.kern_proc.specs.Processes.{rows_at}
 use Rattle.kern_open.specs.declared.shared.Shared.{Shared}
 use Rattle.kern_open.specs.Counted.{Holds, shared_at}
-use Rattle.kern_open.proofs.Books.{some_of}
 use Rattle.kern_open.proofs.Changes.{key_row, no_row}
 use Rattle.kern_open.proofs.Lives.{few_held, holds_less, holds_more, held_still}
 use Rattle.kern_open.proofs.shared.hold_rows.Goals as goal

@@ -1,6 +1,6 @@
-use Rattle.std.proofs.Common.{◌≡◌, ◌+◌, ◌-◌, Some, refl, sym, ◌∙◌, ap, arith}
+use Rattle.std.proofs.Common.{◌≡◌, ◌-◌, Some, refl, sym, ◌∙◌, ap, arith}
 use Rattle.kern_open.specs.declared.shared.Shared.{Shared}
-use Rattle.kern_open.proofs.Keys.{counted_kept, kept_seen, counted_above, counted_last, last_seen, live_close}
+use Rattle.kern_open.proofs.Keys.{counted_kept, kept_seen, counted_above, counted_last, last_seen, live_close, none_close, other_close}
 use Rattle.kern_open.proofs.Lives.{nothing_held}
 use Rattle.kern_open.proofs.opens.Opens.close.Goals as goal
 
@@ -30,6 +30,12 @@ returns-then-shared-eq1-clause-gone c =
 pub returns-then-shared-eq1-clause-live : goal.returns-then-shared-eq1-clause-live
 returns-then-shared-eq1-clause-live c = live_close c.args.self.now _ c.args.pid.0 c.args.fd (returns-then-shared-eq1-clause-closed c) c.requires
 
+pub returns-then-shared-eq1-clause-unused : goal.returns-then-shared-eq1-clause-unused
+returns-then-shared-eq1-clause-unused c = none_close c.args.self.now _ c.args.pid.0 c.args.fd (returns-then-shared-eq1-clause-closed c) c.requires
+
+pub returns-then-shared-eq1-clause-others : goal.returns-then-shared-eq1-clause-others
+returns-then-shared-eq1-clause-others c k ne = other_close c.args.self.now _ c.args.pid.0 k c.args.fd (returns-then-shared-eq1-clause-closed c) c.requires ne
+
 pub overflow_sub-fewer : goal.overflow_sub-fewer
 overflow_sub-fewer c =
     let above = counted_above c.self.inside.procs c.close.new.self c.self.inside.files c.self.inside.files c.args.self.now c.args.pid.0 c.args.fd c.in-Some.key c.in-Some-copied.shared
@@ -57,3 +63,9 @@ returns-clause-gone c =
 
 pub returns-clause-live : goal.returns-clause-live
 returns-clause-live c = live_close c.args.self.now _ c.args.pid.0 c.args.fd (returns-clause-closed c) c.requires
+
+pub returns-clause-unused : goal.returns-clause-unused
+returns-clause-unused c = none_close c.args.self.now _ c.args.pid.0 c.args.fd (returns-clause-closed c) c.requires
+
+pub returns-clause-others : goal.returns-clause-others
+returns-clause-others c k ne = other_close c.args.self.now _ c.args.pid.0 k c.args.fd (returns-clause-closed c) c.requires ne

@@ -1,4 +1,4 @@
-use Rattle.std.proofs.Common.{◌≡◌, ℕ, false, Option, Some, IsSome, ap, sym, ◌∙◌, subst}
+use Rattle.std.proofs.Common.{false, Option, Some, IsSome, ap, sym, ◌∙◌, subst}
 use Rattle.kern_model.specs.declared.node.Row.{Row}
 use Rattle.kern_open.specs.OpenTables.{OpenTables, close_row, with_row}
 use Rattle.kern_open.proofs.Keys.{other_close, none_close}

@@ -1,4 +1,4 @@
-use Rattle.std.proofs.Common.{◌<◌, ◌^◌, sym, ◌∙◌, arith}
+use Rattle.std.proofs.Common.{sym, ◌∙◌, arith}
 use Rattle.sp_base.proofs.TableLaws.{lowest_unused_is}
 use Rattle.kern_proc.specs.Processes.{rows_at}
 use Rattle.kern_open.proofs.Changes.{unused_is}

@@ -1,4 +1,4 @@
-use Rattle.std.proofs.Common.{◌≡◌, ◌↔◌, ℕ, List, Option, None, Some, Result, Ok, Err, IsSome, ap, sym, ◌∙◌, subst, length}
+use Rattle.std.proofs.Common.{◌≡◌, ◌↔◌, ℕ, List, Option, None, Result, Ok, Err, IsSome, ap, sym, ◌∙◌, subst, length}
 use Rattle.std.proofs.lemmas.Result.{err_from_is_err_and}
 use Rattle.sp_base.specs.Table.{at}
 use Rattle.kern_model.specs.State.{Process, rows_in}
@@ -6,7 +6,6 @@ use Rattle.kern_proc.specs.Processes.{rows_at}
 use Rattle.sp_base.specs.declared.names.Pid.{Pid}
 use Rattle.kern_proc.specs.declared.fault.ProcFault.{ProcFault}
 use Rattle.kern_proc.specs.declared.fault.ProcFault.TheVariants.{Full}
-use Rattle.kern_open.specs.declared.shared.Shared.{Shared}
 use Rattle.kern_open.specs.Counted.{tables_of, IsCounted, Holds}
 use Rattle.kern_open.proofs.Lives.{counted_fork, fork_is, child_rows, few_rows, live_of, unused_process_is}
 use Rattle.kern_open.proofs.opens.Opens.fork.Goals as goal

@@ -1,4 +1,4 @@
-use Rattle.std.proofs.Common.{◌≡◌, ℕ, Option, None, Some, IsSome, sym, ◌∙◌, subst}
+use Rattle.std.proofs.Common.{ℕ, Option, None, IsSome, sym, ◌∙◌, subst}
 use Rattle.kern_open.proofs.Changes.{unused_is}
 use Rattle.kern_open.proofs.Keys.{counted_open, open_seen}
 use Rattle.kern_open.proofs.opens.Opens.open.Goals as goal

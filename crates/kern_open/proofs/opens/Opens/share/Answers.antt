@@ -1,4 +1,4 @@
-use Rattle.std.proofs.Common.{◌<◌, ◌^◌, arith}
+use Rattle.std.proofs.Common.{arith}
 use Rattle.kern_open.proofs.Changes.{row_was_none}
 use Rattle.kern_open.proofs.Keys.{counted_duplicate, duplicate_seen, place_of}
 use Rattle.kern_open.proofs.Lives.{few_rows, live_of}
