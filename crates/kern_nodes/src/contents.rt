@@ -94,4 +94,12 @@ impl Contents {
         }
         Ok(())
     }
+
+    /// Takes all bytes away, and gives their memory back.
+    pub(crate) fn clear(&mut self)
+        ensures { self.new ≡ [] }
+    {
+        self.items.clear();
+        self.items.shrink_to_fit();
+    }
 }

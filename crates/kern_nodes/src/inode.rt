@@ -78,6 +78,17 @@ pub(crate) fn resize(inodes: &mut Inodes, number: u64, len: usize) -> Result<(),
     }
 }
 
+/// Takes all bytes of a node away.
+pub(crate) fn clear(inodes: &mut Inodes, number: u64)
+    requires { IsSome (entry inodes.old number) }
+    ensures { ChangesBy (λ inode. record inode { contents = [] }) inodes.old inodes.new number }
+{
+    match inodes.get_mut(&number) {
+        Some(inode) => inode.contents.clear(),
+        None => unreachable!(),
+    }
+}
+
 /// Takes the entry of a node away.
 pub(crate) fn remove(inodes: &mut Inodes, number: u64)
     ensures { Changes inodes.old inodes.new number None }
