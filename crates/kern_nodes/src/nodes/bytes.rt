@@ -1,4 +1,4 @@
-ghost use Rattle.std.specs.Prelude.{◌≡◌, ◌+◌, [], ◌<◌, ◌≤◌, length, max, false, IsSome, IfOk, OnOk, OnErr};
+ghost use Rattle.std.specs.Prelude.{◌≡◌, ◌+◌, ◌<◌, ◌≤◌, [], length, max, false, IsSome, IfOk, OnOk, OnErr};
 ghost use Rattle.sp_base.specs.Table.{at};
 ghost use Rattle.kern_model.specs.Files.{bytes_from, file_limit, is_above_total, fitting, put_over, resized};
 ghost use Rattle.kern_nodes.specs.NodeTable.{state_of};
