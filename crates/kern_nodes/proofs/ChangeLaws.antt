@@ -1,19 +1,19 @@
 -- What the table is after each kind of change to the entries that it shows.
-use Rattle.std.proofs.Common.{◌≡◌, ℕ, ◌+◌, ◌-◌, ◌≤◌, List, [], length, get_or, Option, None, Some, IsSome, is_some, cond, false, nat_lt, ◌||◌, refl, ap, sym, ◌∙◌, arith}
+use Rattle.std.proofs.Common.{◌≡◌, ℕ, ◌+◌, ◌-◌, ◌≤◌, List, [], length, get_or, Option, None, Some, IsSome, is_some, cond, nat_lt, ◌||◌, refl, ap, sym, ◌∙◌, arith}
 use Rattle.std.specs.List.{sum_by, count_by}
 use Rattle.std.specs.Map.{lookup}
 use Rattle.std.specs.Ordering.{nat_cmp}
 use Rattle.std.specs.BTreeMap.{is_at, IsUnchanged}
 use Rattle.kern_model.specs.declared.node.NodeKind.{NodeKind}
 use Rattle.kern_model.specs.State.{bytes_in, replace_bytes}
-use Rattle.kern_model.specs.Files.{is_above_total}
+use Rattle.kern_model.specs.Files.{total_limit}
 use Rattle.kern_nodes.specs.declared.inode.Inode.{Inode}
-use Rattle.kern_nodes.specs.NodeTable.{NodeTable, state_of, without_unkept, with_new, with_links, with_holders, with_node, links_of, holders_of}
+use Rattle.kern_nodes.specs.NodeTable.{NodeTable, without_unkept, with_new, with_links, with_holders, with_node, links_of, holders_of}
 use Rattle.kern_nodes.specs.Inode.{Inodes, entry, listed, node_in, links_in, holders_in, size_in, table_of, Changes, ChangesBy}
 use Rattle.kern_nodes.specs.Bytes.{with_contents, contents_of}
 use Rattle.kern_nodes.proofs.ListedLaws.{listed_set, listed_kept, listed_same}
 use Rattle.kern_nodes.proofs.CountLaws.{number_within, size_within, counted_after, listed_added, counted_more}
-use Rattle.kern_nodes.proofs.ShowLaws.{same_table, Shows, node_at, links_at, holders_at, live_entry, contents_within, sum_within}
+use Rattle.kern_nodes.proofs.ShowLaws.{same_table, Shows, node_at, links_at, holders_at, live_entry, contents_within}
 
 -- where the entries stay, so does the table
 pub unchanged : {old new : Inodes} {last bytes : ℕ} {table : NodeTable} → Shows old last bytes table → IsUnchanged old new → Shows new last bytes table
@@ -70,18 +70,17 @@ holders_set {old} {new} {last} {bytes} {table} number holders shows live changed
           (ap (λ o. bytes + size_in (node_in o)) found.1) shows.counted.within;
     }
 
--- after a node got other bytes, no more than so many that the limit of all allows, with the sum that goes with them
-pub contents_set : {old new : Inodes} {last bytes : ℕ} {table : NodeTable} (edit : List ℕ → List ℕ) (number sum most : ℕ) → Shows old last bytes table → IsSome (get_or table.nodes number None)
+-- after a node got other bytes, with the sum that goes with them, where it is within the limit
+pub contents_set : {old new : Inodes} {last bytes : ℕ} {table : NodeTable} (edit : List ℕ → List ℕ) (number sum : ℕ) → Shows old last bytes table → IsSome (get_or table.nodes number None)
     → ChangesBy (λ inode. record inode { contents = edit inode.contents }) old new number
-    → is_above_total (state_of table) number most ≡ false → length (edit (contents_of table number)) ≤ most → sum ≡ (bytes - length (contents_of table number)) + length (edit (contents_of table number))
+    → sum ≡ (bytes - length (contents_of table number)) + length (edit (contents_of table number)) → sum ≤ total_limit
     → Shows new last sum (with_contents table number (edit (contents_of table number)))
-contents_set {old} {new} {last} {bytes} {table} edit number sum most shows live changed allowed fits sums =
+contents_set {old} {new} {last} {bytes} {table} edit number sum shows live changed sums within =
     let found = live_entry number shows live in
     let below = number_within old last bytes number found.0 shows.counted found.1 in
     let changes = changed found.0 found.1 in
     let other : Option Inode = Some (record found.0 { contents = edit found.0.contents }) in
     let there : get_or table.nodes number None ≡ node_in (Some found.0) = node_at number shows ∙ ap node_in found.1 in
-    let within = sum_within number most shows allowed in
     let part = contents_within number shows live in
     let after : sum + length (contents_of table number) ≡ bytes + length (edit (contents_of table number)) = omega (arith, part, sums) in
     record {
@@ -93,7 +92,7 @@ contents_set {old} {new} {last} {bytes} {table} edit number sum most shows live 
           ∙ ap (λ node. with_node table number (replace_bytes node (edit (bytes_in node)))) (sym there);
       counted = counted_after old new last bytes sum number other shows.counted below changes
           (ap (λ o. sum + size_in o) (sym (node_at number shows)) ∙ after ∙ ap (λ o. bytes + length (edit (bytes_in o))) there)
-          (omega (arith, within, fits, sums));
+          within;
     }
 
 -- what neither a link nor a holder keeps goes

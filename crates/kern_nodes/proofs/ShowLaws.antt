@@ -9,7 +9,7 @@ use Rattle.std.specs.BTreeMap.{btree_map_len, is_at, IsEmpty}
 use Rattle.kern_model.specs.State.{has_room}
 use Rattle.kern_model.specs.Files.{total_limit, is_above_total}
 use Rattle.kern_nodes.specs.declared.inode.Inode.{Inode}
-use Rattle.kern_nodes.specs.NodeTable.{NodeTable, IsAligned, state_of, links_of, holders_of}
+use Rattle.kern_nodes.specs.NodeTable.{NodeTable, IsSound, state_of, links_of, holders_of}
 use Rattle.kern_nodes.specs.Inode.{Inodes, entry, listed, node_in, links_in, holders_in, size_in, table_of, IsCounted}
 use Rattle.kern_nodes.specs.Bytes.{contents_of}
 use Rattle.kern_nodes.proofs.ListedLaws.{length-listed}
@@ -103,11 +103,12 @@ no_entry : (o : Option Inode) → node_in o ≡ None → o ≡ None
 no_entry None gone = refl
 no_entry (Some inode) gone = absurd cc
 
--- each number has its counts, which are 0 where there is no node
-pub aligned : {inodes : Inodes} {last bytes : ℕ} {table : NodeTable} → Shows inodes last bytes table → IsAligned table
-aligned {inodes} {last} {bytes} {table} shows = record {
+-- each number has its counts, which are 0 where there is no node, and all bytes are within their limit
+pub sound : {inodes : Inodes} {last bytes : ℕ} {table : NodeTable} → Shows inodes last bytes table → IsSound table
+sound {inodes} {last} {bytes} {table} shows = record {
   links = ap (λ t. length t.links) (sym shows.view) ∙ length-listed links_in inodes (last + 1) ∙ sym (length_nodes shows);
   holders = ap (λ t. length t.holders) (sym shows.view) ∙ length-listed holders_in inodes (last + 1) ∙ sym (length_nodes shows);
   unlinked = λ number gone. links_at number shows ∙ ap links_in (no_entry (entry inodes number) (sym (node_at number shows) ∙ gone));
   unheld = λ number gone. holders_at number shows ∙ ap holders_in (no_entry (entry inodes number) (sym (node_at number shows) ∙ gone));
+  within = subst (λ n. n ≤ total_limit) (sym (total_bytes shows)) shows.counted.within;
 }

@@ -1,9 +1,10 @@
 -- The nodes of a file system by number.
-use Rattle.std.specs.Prelude.{◌≡◌, ℕ, nat_lt, Bool, ◌||◌, List, [], ◌∷◌, ◌++◌, Option, None, Some, slice_index, slice_set, length, if◌then◌else◌}
+use Rattle.std.specs.Prelude.{◌≡◌, ℕ, ◌≤◌, nat_lt, Bool, ◌||◌, List, [], ◌∷◌, ◌++◌, Option, None, Some, slice_index, slice_set, length, if◌then◌else◌}
 use Rattle.sp_base.specs.Table.{at}
 use Rattle.kern_model.specs.declared.node.Node.{Node}
 use Rattle.kern_model.specs.declared.node.NodeKind.{NodeKind}
-use Rattle.kern_model.specs.State.{State, opening}
+use Rattle.kern_model.specs.State.{State, opening, total_size}
+use Rattle.kern_model.specs.Files.{total_limit}
 
 -- the nodes by number; how many links and how many holders each has, 0 where there is no node
 pub record NodeTable : Type 0 where
@@ -35,12 +36,13 @@ links_of table node = slice_index table.links node
 abbrev pub holders_of : NodeTable → ℕ → ℕ
 holders_of table node = slice_index table.holders node
 
--- each number has a count of links and one of holders, and where there is no node both are 0
-pub record IsAligned (table : NodeTable) : Type 0 where
+-- each number has a count of links and one of holders, where there is no node both are 0, and all bytes are within their limit
+pub record IsSound (table : NodeTable) : Type 0 where
   pub links : length table.links ≡ length table.nodes
   pub holders : length table.holders ≡ length table.nodes
   pub unlinked : (node : ℕ) → at table.nodes node ≡ None → links_of table node ≡ 0
   pub unheld : (node : ℕ) → at table.nodes node ≡ None → holders_of table node ≡ 0
+  pub within : total_size (state_of table) ≤ total_limit
 
 -- the table with another count of links of a node
 abbrev pub with_links : NodeTable → ℕ → ℕ → NodeTable

@@ -66,9 +66,9 @@ impl Contents {
         Octets::of(alloc, &rest[..count])
     }
 
-    #[tactic(auto, using(crate::proofs::PutLaws::put_over_resized))]
     /// Puts bytes over those from an offset on; a gap before them is zeros. The work is that of the gap
     /// and of the bytes put. An error leaves all as it was.
+    #[tactic(auto, using(crate::proofs::PutLaws::put_over_resized))]
     pub(crate) fn put(&mut self, from: usize, bytes: &[u8]) -> Result<(), NoMemory>
         requires { from + length bytes.now < 2 ^ 64 }
         ensures ok { OnOk result (self.new ≡ put_over self.old from bytes.now) }
@@ -93,5 +93,13 @@ impl Contents {
             self.items.shrink_to(len * 2);
         }
         Ok(())
+    }
+
+    /// Takes all bytes away, and gives their memory back.
+    pub(crate) fn clear(&mut self)
+        ensures { self.new ≡ [] }
+    {
+        self.items.clear();
+        self.items.shrink_to_fit();
     }
 }

@@ -43,8 +43,8 @@ pub(crate) fn set_holders(inodes: &mut Inodes, number: u64, holders: u64)
     }
 }
 
-#[tactic(auto, using(std::proofs::lemmas::Map::Steps::set_value_same))]
 /// Puts bytes over those of a node from an offset on. An error leaves all as it was.
+#[tactic(auto, using(std::proofs::lemmas::Map::Steps::set_value_same))]
 pub(crate) fn put(
     inodes: &mut Inodes,
     number: u64,
@@ -63,9 +63,9 @@ pub(crate) fn put(
     }
 }
 
-#[tactic(auto, using(std::proofs::lemmas::Map::Steps::set_value_same))]
 /// Cuts the bytes of a node to a length, or fills them up to it with zeros. An error leaves all as it
 /// was.
+#[tactic(auto, using(std::proofs::lemmas::Map::Steps::set_value_same))]
 pub(crate) fn resize(inodes: &mut Inodes, number: u64, len: usize) -> Result<(), NoMemory>
     requires { IsSome (entry inodes.old number) }
     ensures ok { OnOk result (ChangesBy (λ inode. record inode { contents = resized inode.contents len })
@@ -74,6 +74,17 @@ pub(crate) fn resize(inodes: &mut Inodes, number: u64, len: usize) -> Result<(),
 {
     match inodes.get_mut(&number) {
         Some(inode) => inode.contents.resize(len),
+        None => unreachable!(),
+    }
+}
+
+/// Takes all bytes of a node away.
+pub(crate) fn clear(inodes: &mut Inodes, number: u64)
+    requires { IsSome (entry inodes.old number) }
+    ensures { ChangesBy (λ inode. record inode { contents = [] }) inodes.old inodes.new number }
+{
+    match inodes.get_mut(&number) {
+        Some(inode) => inode.contents.clear(),
         None => unreachable!(),
     }
 }

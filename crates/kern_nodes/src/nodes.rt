@@ -1,7 +1,7 @@
 ghost use Rattle.std.specs.Prelude.{◌≡◌, ◌+◌, ◌-◌, ◌^◌, ◌<◌, ◌↔◌, length, IsTrue, IsSome, Some, IfOk, OnOk, OnErr};
 ghost use Rattle.sp_base.specs.Table.{at};
 ghost use Rattle.kern_model.specs.State.{kind_in, is_directory, has_room};
-ghost use Rattle.kern_nodes.specs.NodeTable.{IsAligned, state_of, fresh_nodes, with_new, links_of, holders_of, with_links, with_holders, without_unkept};
+ghost use Rattle.kern_nodes.specs.NodeTable.{IsSound, state_of, fresh_nodes, with_new, links_of, holders_of, with_links, with_holders, without_unkept};
 ghost use Rattle.kern_nodes.specs.Inode.{node_in};
 ghost use Rattle.kern_nodes.specs.Bytes.{contents_of};
 
@@ -116,7 +116,7 @@ impl Nodes {
     /// Whether another node can be made: there are fewer than 65,536, and the number 2^64 - 1 wasn't given.
     pub fn has_room(&self) -> bool
         ensures room { result ≡ has_room (state_of self.now) }
-        ensures aligned { IsAligned self.now }
+        ensures sound { IsSound self.now }
     {
         self.inodes.len() < NODE_LIMIT && self.last < u64::MAX
     }

@@ -1,4 +1,4 @@
-ghost use Rattle.std.specs.Prelude.{◌≡◌, ◌+◌, ◌<◌, ◌≤◌, length, max, false, IsSome, IfOk, OnOk, OnErr};
+ghost use Rattle.std.specs.Prelude.{◌≡◌, ◌+◌, ◌<◌, ◌≤◌, [], length, max, false, IsSome, IfOk, OnOk, OnErr};
 ghost use Rattle.sp_base.specs.Table.{at};
 ghost use Rattle.kern_model.specs.Files.{bytes_from, file_limit, is_above_total, fitting, put_over, resized};
 ghost use Rattle.kern_nodes.specs.NodeTable.{state_of};
@@ -122,5 +122,14 @@ impl Nodes {
         }
         self.resize(node, len)?;
         Ok(())
+    }
+
+    /// Takes all bytes of a node away.
+    pub fn clear(&mut self, node: NodeNo)
+        requires { IsSome (at self.old.nodes node.0) }
+        ensures { self.new ≡ with_contents self.old node.0 [] }
+    {
+        self.bytes -= self.len(node);
+        inode::clear(&mut self.inodes, node.0);
     }
 }

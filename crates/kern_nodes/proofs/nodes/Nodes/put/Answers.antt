@@ -3,7 +3,7 @@ use Rattle.std.proofs.lemmas.Result.{err_from_is_err_and}
 use Rattle.kern_model.specs.Files.{put_over}
 use Rattle.kern_nodes.specs.Bytes.{contents_of}
 use Rattle.kern_nodes.proofs.PutLaws.{length-put_over}
-use Rattle.kern_nodes.proofs.ShowLaws.{live_entry}
+use Rattle.kern_nodes.proofs.ShowLaws.{live_entry, sum_within}
 use Rattle.kern_nodes.proofs.ChangeLaws.{unchanged, contents_set}
 use Rattle.kern_nodes.proofs.nodes.Nodes.put.Goals as goal
 
@@ -24,10 +24,12 @@ pub invariant_of-self-2 : goal.invariant_of-self-2
 invariant_of-self-2 c =
     let old : List ℕ = contents_of c.args.self.now c.args.node.0 in
     let long : length (put_over old c.args.from c.args.bytes.now) ≡ max (length old) (c.args.from + length c.args.bytes.now) = length-put_over old c.args.bytes.now c.args.from in
-    (contents_set (λ bytes. put_over bytes c.args.from c.args.bytes.now) c.args.node.0 (c.self.inside.bytes - c.len-before.result + c.max-after.result) (max (length old) (c.args.from + length c.args.bytes.now)) (record { view = c.self.view_is; counted = c.self.invariant }) c.requires.live c.in_ok-put.ensures.ok c.requires.within (omega (arith, long)) (omega (arith, long))).counted
+    let fits = sum_within c.args.node.0 (max (length old) (c.args.from + length c.args.bytes.now)) (record { view = c.self.view_is; counted = c.self.invariant }) c.requires.within in
+    (contents_set (λ bytes. put_over bytes c.args.from c.args.bytes.now) c.args.node.0 (c.self.inside.bytes - c.len-before.result + c.max-after.result) (record { view = c.self.view_is; counted = c.self.invariant }) c.requires.live c.in_ok-put.ensures.ok (omega (arith, long)) (omega (arith, fits))).counted
 
 pub returns-clause-ok : goal.returns-clause-ok
 returns-clause-ok c =
     let old : List ℕ = contents_of c.args.self.now c.args.node.0 in
     let long : length (put_over old c.args.from c.args.bytes.now) ≡ max (length old) (c.args.from + length c.args.bytes.now) = length-put_over old c.args.bytes.now c.args.from in
-    (contents_set (λ bytes. put_over bytes c.args.from c.args.bytes.now) c.args.node.0 (c.self.inside.bytes - c.len-before.result + c.max-after.result) (max (length old) (c.args.from + length c.args.bytes.now)) (record { view = c.self.view_is; counted = c.self.invariant }) c.requires.live c.in_ok-put.ensures.ok c.requires.within (omega (arith, long)) (omega (arith, long))).view
+    let fits = sum_within c.args.node.0 (max (length old) (c.args.from + length c.args.bytes.now)) (record { view = c.self.view_is; counted = c.self.invariant }) c.requires.within in
+    (contents_set (λ bytes. put_over bytes c.args.from c.args.bytes.now) c.args.node.0 (c.self.inside.bytes - c.len-before.result + c.max-after.result) (record { view = c.self.view_is; counted = c.self.invariant }) c.requires.live c.in_ok-put.ensures.ok (omega (arith, long)) (omega (arith, fits))).view
