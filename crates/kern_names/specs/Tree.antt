@@ -1,10 +1,10 @@
 -- What the directories are to their callers.
-use Rattle.std.specs.Prelude.{◌≡◌, ℕ, ◌∷◌, [], List, Bool, false, Some, None, IsTrue, IsSome, refl, if◌then◌else◌}
+use Rattle.std.specs.Prelude.{◌≡◌, ℕ, ◌∷◌, [], List, Bool, Some, IsTrue, refl, if◌then◌else◌}
 use Rattle.std.specs.Ordering.{nat_cmp}
 use Rattle.std.specs.Coded.{Coded, code_by, coded×, coded_ℕ}
 use Rattle.std.specs.FinMap.{get, empty, insert, remove}
 use Rattle.std.specs.FinSet as set
-use Rattle.kern_model.specs.Name.{Path, Names, has_entries, renamed}
+use Rattle.kern_model.specs.Name.{Path, Names, renamed}
 use Rattle.kern_model.specs.NameMap.{names_code}
 use Rattle.kern_model.specs.State.{root}
 
@@ -40,3 +40,22 @@ without_name t path node = record { names = remove t.names path; directories = s
 -- the tree after what was `old`, and each path below it, is `new`
 abbrev pub moved : Tree → Path → Path → Tree
 moved t old new = record t { names = renamed t.names old new }
+
+-- a directory stands under a path
+pub record IsPlace (t : Tree) (path : Path) : Type 0 where
+  pub node : ℕ
+  pub stands : get t.names path ≡ Some node
+  pub directory : IsTrue (has_directory t node)
+
+-- a node stands under some path
+pub record HasPlace (t : Tree) (node : ℕ) : Type 0 where
+  pub path : Path
+  pub stands : get t.names path ≡ Some node
+
+-- the root is a directory, each other path stands in one, and a directory has one path
+pub record IsWhole (t : Tree) : Type 0 where
+  pub top : get t.names [] ≡ Some root
+  pub root_directory : IsTrue (has_directory t root)
+  pub parents : (name : List ℕ) (path : Path) (node : ℕ) → get t.names (name ∷ path) ≡ Some node → IsPlace t path
+  pub placed : (node : ℕ) → IsTrue (has_directory t node) → HasPlace t node
+  pub once : (path other : Path) (node : ℕ) → IsTrue (has_directory t node) → get t.names path ≡ Some node → get t.names other ≡ Some node → path ≡ other

@@ -4,7 +4,7 @@ ghost use Rattle.std.specs.FinMap.{get};
 ghost use Rattle.kern_model.specs.Name.{Path, has_entries, parent, below};
 ghost use Rattle.kern_names.specs.Edges.{Shown, edges_of, parents_of};
 ghost use Rattle.kern_names.specs.Shown.{Shown-prop};
-ghost use Rattle.kern_names.specs.Tree.{root_alone, has_directory, with_name, without_name, moved};
+ghost use Rattle.kern_names.specs.Tree.{IsWhole, root_alone, has_directory, with_name, without_name, moved};
 ghost use Rattle.kern_names.specs.Requests.{MayHaveName, MayGo, MayMove, MayReplace};
 
 use crate::entries;
@@ -29,7 +29,7 @@ pub struct Directory {
 #[derive(Drop)]
 pub struct Directories {
     alloc: Global,
-    pub(crate) directories: BTreeMap<u64, Directory>,
+    directories: BTreeMap<u64, Directory>,
     ghost shown: { Shown (edges_of directories) (parents_of directories) } by { Shown-prop (edges_of directories) (parents_of directories) },
 }
 
@@ -56,6 +56,14 @@ impl Directories {
             alloc,
             directories: entries::root_alone(alloc)?,
         })
+    }
+
+    /// That the names are a tree, for callers that know of them only what the calls before said;
+    /// does nothing.
+    pub fn is_whole(&self)
+        ensures { IsWhole self.now }
+    {
+        let _ = &self.directories;
     }
 
     /// The node under a name in a directory.

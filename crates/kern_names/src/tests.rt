@@ -9,7 +9,9 @@ use std::process::Abort;
 use std::test::Fail;
 
 const DIRECTORY: NodeNo = NodeNo(2);
+
 const FILE: NodeNo = NodeNo(3);
+
 const OTHER: NodeNo = NodeNo(4);
 
 /// What a row that no caller could ask for answers.
@@ -161,7 +163,10 @@ fn long_components_are_refused(rt: HostRuntime) -> Result<(), Fail> {
     for _ in 0..256 {
         text.push_str("x")?;
     }
-    assert_eq!(rt; walk_from(&tree, ROOT, text.as_str())?, Walked::Fault(Errno::Enametoolong));
+    assert_eq!(rt;
+        walk_from(&tree, ROOT, text.as_str())?,
+        Walked::Fault(Errno::Enametoolong)
+    );
     Ok(())
 }
 

@@ -79,7 +79,7 @@ impl Directories {
         requires short { length text.now ≤ 1023 }
         ensures { (s : State) (pid : ℕ) → HasNames s self.now → directory_of s pid ≡ working.0 → Reaches self.now text.now (walk s pid text.now) result }
     {
-        let _ = &self.directories;
+        self.is_whole();
         if text.is_empty() {
             return Walked::Fault(Errno::Enoent);
         }
