@@ -25,6 +25,10 @@ root_alone = record { names = insert empty [] root; directories = set.insert set
 abbrev pub has_directory : Tree → ℕ → Bool
 has_directory t node = set.contains t.directories node
 
+-- a path leads to a node
+abbrev pub LeadsTo : Tree → Path → ℕ → Type 0
+LeadsTo t path node = get t.names path ≡ Some node
+
 -- the directories with one more where a node is one
 abbrev pub with_directory : set.FinSet nat_cmp → ℕ → Bool → set.FinSet nat_cmp
 with_directory directories node is_directory = if is_directory then set.insert directories node else directories
@@ -44,18 +48,18 @@ moved t old new = record t { names = renamed t.names old new }
 -- a directory stands under a path
 pub record IsPlace (t : Tree) (path : Path) : Type 0 where
   pub node : ℕ
-  pub stands : get t.names path ≡ Some node
+  pub stands : LeadsTo t path node
   pub directory : IsTrue (has_directory t node)
 
 -- a node stands under some path
 pub record HasPlace (t : Tree) (node : ℕ) : Type 0 where
   pub path : Path
-  pub stands : get t.names path ≡ Some node
+  pub stands : LeadsTo t path node
 
 -- the root is a directory, each other path stands in one, and a directory has one path
 pub record IsWhole (t : Tree) : Type 0 where
-  pub top : get t.names [] ≡ Some root
+  pub top : LeadsTo t [] root
   pub root_directory : IsTrue (has_directory t root)
-  pub parents : (name : List ℕ) (path : Path) (node : ℕ) → get t.names (name ∷ path) ≡ Some node → IsPlace t path
+  pub parents : (name : List ℕ) (path : Path) (node : ℕ) → LeadsTo t (name ∷ path) node → IsPlace t path
   pub placed : (node : ℕ) → IsTrue (has_directory t node) → HasPlace t node
-  pub once : (path other : Path) (node : ℕ) → IsTrue (has_directory t node) → get t.names path ≡ Some node → get t.names other ≡ Some node → path ≡ other
+  pub once : (path other : Path) (node : ℕ) → IsTrue (has_directory t node) → LeadsTo t path node → LeadsTo t other node → path ≡ other
