@@ -6,6 +6,8 @@ ghost use Rattle.kern_names.specs.Shown.{ShownBy, ShownBy-prop};
 ghost use Rattle.kern_names.specs.Tree.{IsWhole, LeadsTo, root_alone, has_directory, with_name, without_name, moved};
 ghost use Rattle.kern_names.specs.Requests.{MayHaveName, MayGo, MayMove, MayReplace};
 
+mod walk;
+
 use crate::entries;
 use crate::listing::Listing;
 use sp_base::{NoMemory, NodeNo};

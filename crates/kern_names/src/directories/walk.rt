@@ -5,7 +5,7 @@ ghost use Rattle.kern_model.specs.Walk.{walk_last, walk_from, walk};
 ghost use Rattle.kern_names.specs.Tree.{LeadsTo, has_directory};
 ghost use Rattle.kern_names.specs.Reach.{HasNames, Reaches};
 
-use crate::directories::{Directories, ROOT};
+use super::{Directories, ROOT};
 use crate::path_text::{has_long_component, is_here, is_up, next_component};
 use crate::walk::{Last, Walked};
 use sp_base::{Errno, NodeNo};
