@@ -1,16 +1,16 @@
 -- The way up from a directory.
-use Rattle.std.specs.Prelude.{is_some, IsSome, IsTrue, ◌<◌, not, ◌&&◌}
-use Rattle.std.proofs.Common.{◌≡◌, ◌≢◌, cond, ℕ, Bool, true, false, List, [], ◌∷◌, ◌++◌, length, Option, None, Some, refl, ap, sym, subst, ◌∙◌, arith}
+use Rattle.std.specs.Prelude.{is_some, IsTrue, ◌<◌, not, ◌&&◌}
+use Rattle.std.proofs.Common.{◌≡◌, ◌≢◌, cond, ℕ, Bool, true, false, List, [], ◌∷◌, ◌++◌, length, Option, None, Some, refl, ap, sym, ◌∙◌, arith}
 use Rattle.std.specs.Option.{unwrap_or, option_map}
 use Rattle.std.specs.FinMap.{get}
-use Rattle.kern_model.specs.Name.{Path, parent, path_of, below, is_same_path}
+use Rattle.kern_model.specs.Name.{Path, path_of, below, is_same_path}
 use Rattle.kern_model.specs.State.{root}
 use Rattle.kern_model.specs.Links.{is_below}
 use Rattle.kern_model.proofs.BelowLaws.{other_test, path_from_test, below_told, below_is}
 use Rattle.kern_names.specs.Tree.{Tree, has_directory}
-use Rattle.kern_names.specs.Edges.{step, resolve, parents_of}
-use Rattle.kern_names.proofs.ShownLaws.{none_some, same_node, not_longer}
-use Rattle.kern_names.proofs.InsideLaws.{Directories, ShowsOf, IsTreeOf, is_up, place, stands, one_path, some_by}
+use Rattle.kern_names.specs.Edges.{parents_of}
+use Rattle.kern_names.proofs.ShownLaws.{same_node, not_longer}
+use Rattle.kern_names.proofs.InsideLaws.{Directories, ShowsOf, IsTreeOf, is_up, place, stands, one_path}
 use Rattle.kern_names.proofs.RootLaws.{above_within}
 use Rattle.kern_names.proofs.WalkSteps.{path_of_is}
 

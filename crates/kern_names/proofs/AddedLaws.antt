@@ -7,7 +7,7 @@ use Rattle.kern_model.specs.Name.{Path, Names, is_same_path}
 use Rattle.kern_model.specs.State.{root}
 use Rattle.kern_model.proofs.NamesLaws.{paths_total}
 use Rattle.kern_model.proofs.BelowLaws.{same_test, other_test}
-use Rattle.kern_names.specs.Edges.{Edges, Parents, step, resolve, HasPath, IsTree}
+use Rattle.kern_names.specs.Edges.{Edges, Parents, step, resolve, IsTree}
 use Rattle.kern_names.proofs.ShownLaws.{name_cases, not_child, none_some, same_node, apart}
 
 module _ (edge after : Edges) (up parents : Parents) (tree : IsTree edge up) (directory node : ℕ) (name : List ℕ) (path : Path)
@@ -36,7 +36,7 @@ module _ (edge after : Edges) (up parents : Parents) (tree : IsTree edge up) (di
     | inl h ↦ inr (
       (λ e. not_child q c (e ∙ sym h.0)),
       ap (λ o. step after o c) h.1 ∙ kept node c (λ k. apart_node k.0) ∙ tree.plain node c new_node
-      ∙ sym (ap (λ (p : Path). step edge (resolve edge p) c) h.0 ∙ ap (λ o. step edge o c) nothing_there),
+          ∙ sym (ap (λ (p : Path). step edge (resolve edge p) c) h.0 ∙ ap (λ o. step edge o c) nothing_there),
     )
     | inr h ↦ elim (resolve edge q) as (λ o. resolve edge q ≡ o → Added (c ∷ q)) [
       | None ↦ λ e. inr (

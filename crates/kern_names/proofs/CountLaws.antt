@@ -1,15 +1,14 @@
 -- How many names a node has once there is a name more, a name fewer, or a name in another place.
 use Rattle.std.specs.Prelude.{filter, ◌==◌, if◌then◌else◌}
-use Rattle.std.proofs.Common.{◌≡◌, ◌≢◌, cond, ℕ, ◌+◌, Bool, true, false, ◌&&◌, List, [], ◌∷◌, ◌++◌, length, Option, None, Some, T, refl, sym, ap, subst, ◌∙◌, arith}
+use Rattle.std.proofs.Common.{◌≡◌, ◌≢◌, cond, ℕ, ◌+◌, Bool, true, false, ◌&&◌, List, [], ◌∷◌, ◌++◌, length, None, Some, T, refl, sym, ap, ◌∙◌, arith}
 use Rattle.std.proofs.lemmas.List.{nil_from_length}
 use Rattle.std.specs.Ordering.{is_eq, is_lt}
 use Rattle.std.specs.declared.cmp.Ordering.TheVariants.{Less, Equal, Greater}
-use Rattle.std.specs.FinMap.{get, empty, insert, remove, entries, entries_sorted, entries-insert, entries-from_sorted, find, put, from_sorted, from_entries, is_sorted, get-entries, get-insert, get-remove, get-from_entries, same_map, len, len-empty, len-entries}
+use Rattle.std.specs.FinMap.{get, insert, remove, entries, entries_sorted, entries-insert, entries-from_sorted, find, put, from_sorted, from_entries, is_sorted, get-entries, get-insert, get-remove, get-from_entries, same_map, len, len-empty, len-entries}
 use Rattle.std.specs.FinMap.Entries.{below_all, by_order}
 use Rattle.kern_model.specs.Name.{Path, Names, path_cmp, is_same_path, below, moved_by, moved_entries, name_count, renamed}
 use Rattle.kern_model.proofs.NamesLaws.{paths_total, exact_paths}
-use Rattle.kern_model.proofs.BelowLaws.{same_test, other_test, path_from_test, below_is, not_below, get_elsewhere, get_new}
-use Rattle.kern_names.proofs.ShownLaws.{none_some}
+use Rattle.kern_model.proofs.BelowLaws.{same_test, path_from_test, below_is, not_below, get_elsewhere, get_new}
 
 -- how many entries have a node
 abbrev count_in : ℕ → List (Path × ℕ) → ℕ

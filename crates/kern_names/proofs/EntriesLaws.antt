@@ -1,5 +1,5 @@
 -- A directory of a map is written.
-use Rattle.std.proofs.Common.{◌≡◌, ◌≢◌, cond, ℕ, List, [], ◌∷◌, Option, None, Some, Bool, true, false, refl, ap, sym, subst, ◌∙◌, ◌⊎◌, inl, inr}
+use Rattle.std.proofs.Common.{◌≡◌, ◌≢◌, cond, ℕ, List, Option, None, Some, true, false, refl, ap, sym, ◌∙◌, inl, inr}
 use Rattle.std.proofs.lemmas.Bool.{cases_eq, false_from_ne_true}
 use Rattle.std.proofs.lemmas.Cmp.{eq_by_cmp_equiv}
 use Rattle.std.specs.Option.{option_map}

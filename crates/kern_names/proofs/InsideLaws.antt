@@ -1,6 +1,6 @@
 -- What a change of the names in a map of directories is to callers.
 use Rattle.std.specs.Prelude.{is_some, IsSome, IsTrue, not, ◌&&◌, if◌then◌else◌}
-use Rattle.std.proofs.Common.{◌≡◌, ◌≢◌, ℕ, Bool, true, false, ◌||◌, List, [], ◌∷◌, ◌++◌, Option, None, Some, refl, ap, sym, subst, ◌∙◌, ◌⊎◌, inl, inr}
+use Rattle.std.proofs.Common.{◌≡◌, ◌≢◌, ℕ, Bool, true, false, ◌||◌, List, [], ◌∷◌, Option, None, Some, refl, ap, sym, subst, ◌∙◌, ◌⊎◌, inl, inr}
 use Rattle.std.proofs.lemmas.Bool.{cases_eq, false_from_ne_true, true≢false}
 use Rattle.std.proofs.lemmas.Cmp.{eq_by_cmp_equiv}
 use Rattle.std.specs.Option.{option_map}
@@ -12,22 +12,19 @@ use Rattle.std.specs.declared.cmp.Ordering.{Ordering}
 use Rattle.std.specs.declared.cmp.Ordering.TheVariants.{Less, Equal, Greater}
 use Rattle.std.specs.Cmp.{nat_cmp_total}
 use Rattle.std.specs.BTreeMap as tree
-use Rattle.std.specs.FinMap.{get, insert, remove, nat_cmp-IsAntisymmetric}
+use Rattle.std.specs.FinMap.{get, nat_cmp-IsAntisymmetric}
 use Rattle.std.specs.FinSet as set
-use Rattle.kern_model.specs.Name.{Path, Names, has_entries, below, renamed, is_same_path}
+use Rattle.kern_model.specs.Name.{Path}
 use Rattle.kern_model.specs.State.{root}
-use Rattle.kern_model.specs.Links.{is_below}
 use Rattle.kern_model.proofs.EntryLaws.{no_entry}
-use Rattle.kern_model.proofs.RenameLaws.{apart_by}
 use Rattle.kern_names.specs.declared.directories.Directory.{Directory}
-use Rattle.kern_names.specs.Tree.{Tree, has_directory, with_directory, with_name, without_name, moved}
+use Rattle.kern_names.specs.Tree.{Tree, IsPlace, IsWhole, has_directory, with_directory, with_name, without_name}
 use Rattle.kern_names.specs.Edges.{Edges, Parents, step, resolve, HasPath, IsTree, Shows, Shown, name_in, edges_of, parents_of}
-use Rattle.kern_names.specs.Changes.{Keeps, AddsName, RemovesName, MovesName, ReplacesName}
-use Rattle.kern_names.specs.Requests.{MayHaveName, MayGo, MayMove, MayReplace}
-use Rattle.kern_names.proofs.ShownLaws.{none_some, same_node, nothing}
+use Rattle.kern_names.specs.Changes.{Keeps, AddsName, RemovesName}
+use Rattle.kern_names.specs.Requests.{MayHaveName, MayGo}
+use Rattle.kern_names.proofs.ShownLaws.{none_some}
 use Rattle.kern_names.proofs.AddedLaws.{tree_added, names_added}
 use Rattle.kern_names.proofs.RemovedLaws.{tree_removed, names_removed}
-use Rattle.kern_names.proofs.MovedLaws.{tree_moved, names_moved}
 
 equal_from : (r : Ordering) → is_eq r ≡ true → r ≡ Equal
 equal_from Less e = absurd (true≢false (sym e))
@@ -136,6 +133,28 @@ module _ (old : Directories) (is : IsTreeOf old) (now : Tree) (shows : ShowsOf o
   -- what a directory has under a name stands under the name in the directory's path
   pub named : (directory : ℕ) (name : List ℕ) (path : Path) → get now.names path ≡ Some directory → edge directory name ≡ get now.names (name ∷ path)
   named directory name path e = sym (shows.0 (name ∷ path) ∙ ap (λ o. step edge o name) (leads path e))
+
+  place_by : (name : List ℕ) (path : Path) (node : ℕ) (o : Option ℕ) → resolve edge path ≡ o → step edge o name ≡ Some node → IsPlace now path
+  place_by name path node None e f = absurd (none_some f)
+  place_by name path node (Some above) e f = record {
+    node = above;
+    stands = shows.0 path ∙ e;
+    directory = shows.1 above ∙ some_up (up above) refl;
+  }
+    where
+      some_up : (o : Option ℕ) → up above ≡ o → is_some o ≡ true
+      some_up (Some d) t = refl
+      some_up None t = absurd (none_some (sym (is.plain above name t) ∙ f))
+
+  -- the tree holds together
+  pub whole : IsWhole now
+  whole = record {
+    top = root_stands;
+    root_directory = root_within;
+    parents = λ name path node e. place_by name path node (resolve edge path) refl (leads (name ∷ path) e);
+    placed = λ node h. record { path = (place node h).path; stands = stands node h };
+    once = λ p q node h e f. one_path node h p q e f;
+  }
 
   -- a node that may go has no names
   pub bare : (path : Path) (node : ℕ) → get now.names path ≡ Some node → MayGo now path → (c : List ℕ) → edge node c ≡ None

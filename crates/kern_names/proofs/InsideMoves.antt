@@ -1,19 +1,19 @@
 -- What a name that goes to another place in a map of directories is to callers.
 use Rattle.std.specs.Prelude.{is_some, IsSome, IsTrue, nat_eq, if◌then◌else◌}
-use Rattle.std.proofs.Common.{◌≡◌, ◌≢◌, ℕ, Bool, true, false, eqb, ◌&&◌, cond, List, [], ◌∷◌, ◌++◌, Option, None, Some, refl, ap, sym, subst, ◌∙◌, ◌⊎◌, inl, inr}
+use Rattle.std.proofs.Common.{◌≡◌, ◌≢◌, ℕ, false, eqb, ◌&&◌, cond, List, ◌∷◌, ◌++◌, Option, None, Some, refl, ap, sym, subst, ◌∙◌, ◌⊎◌, inl, inr}
 use Rattle.std.proofs.lemmas.Bool.{cases_eq, eqb-true, eq-eqb, and_parts, and_from, false_from_ne_true}
 use Rattle.std.specs.Cmp.Lexicographic.{pointwise, bytes_decides}
 use Rattle.std.specs.FinMap.{get, remove}
 use Rattle.std.specs.FinSet as set
 use Rattle.std.specs.Prelude.{Result, OnOk, OnErr}
 use Rattle.sp_base.specs.declared.memory.NoMemory.{NoMemory}
-use Rattle.kern_model.specs.Name.{Path, Names, below, is_same_path, renamed}
+use Rattle.kern_model.specs.Name.{Path, below, is_same_path}
 use Rattle.kern_model.specs.Links.{is_below}
 use Rattle.kern_model.proofs.RenameLaws.{apart_by}
 use Rattle.kern_names.specs.Tree.{Tree, has_directory, without_name, moved}
-use Rattle.kern_names.specs.Edges.{Edges, Parents, step, resolve, IsTree, Shown, edges_of, parents_of}
+use Rattle.kern_names.specs.Edges.{Edges, Parents, resolve, IsTree, Shown, edges_of, parents_of}
 use Rattle.kern_names.specs.Changes.{Keeps, MovesName, ReplacesName}
-use Rattle.kern_names.specs.Requests.{MayGo, MayMove, MayReplace}
+use Rattle.kern_names.specs.Requests.{MayMove, MayReplace}
 use Rattle.kern_names.proofs.ShownLaws.{not_child, none_some, same_node, nothing}
 use Rattle.kern_names.proofs.RemovedLaws.{tree_removed, names_removed, others_left}
 use Rattle.kern_names.proofs.MovedLaws.{tree_moved, names_moved}
@@ -216,8 +216,10 @@ module _ (old : Directories) (is : IsTreeOf old) (now : Tree) (shows : ShowsOf o
       (ok : OnOk r (MovesName old new from old_name to new_name node)) (err : OnErr r (Keeps old new)) where
     pub rename_shown : Shown (edges_of new) (parents_of new)
     rename_shown = either_way r ok err
-        (λ moves. (moved now (old_name ∷ path) (new_name ∷ above),
-              moved_shows old is now shows from to old_name new_name within under path above at into node (child_stands (Some node) path at found) new (may path above at into) moves))
+        (λ moves. (
+          moved now (old_name ∷ path) (new_name ∷ above),
+          moved_shows old is now shows from to old_name new_name within under path above at into node (child_stands (Some node) path at found) new (may path above at into) moves,
+        ))
         (λ keeps. (now, kept_shows old new keeps now shows))
 
     pub rename_tree : IsTreeOf new
@@ -259,8 +261,10 @@ module _ (old : Directories) (is : IsTreeOf old) (now : Tree) (shows : ShowsOf o
 
       module _ (new : Directories) (replaces : ReplacesName old new from old_name to new_name node replaced) where
         pub replace_shown : Shown (edges_of new) (parents_of new)
-        replace_shown = (moved (without_name now (new_name ∷ above) replaced) (old_name ∷ path) (new_name ∷ above),
-          replaced_shows old is now shows from to old_name new_name within under path above at into node there new (may path above at into) replaced taken replaces)
+        replace_shown = (
+          moved (without_name now (new_name ∷ above) replaced) (old_name ∷ path) (new_name ∷ above),
+          replaced_shows old is now shows from to old_name new_name within under path above at into node there new (may path above at into) replaced taken replaces,
+        )
 
         pub replace_tree : IsTreeOf new
         replace_tree = replaced_tree old is now shows from to old_name new_name within under path above at into node there new (may path above at into) replaced taken replaces
@@ -270,4 +274,4 @@ module _ (old : Directories) (is : IsTreeOf old) (now : Tree) (shows : ShowsOf o
         replace_is u p q n e f taken_by =
             let same : replaced ≡ n = same_node (other ∙ named old is now shows to new_name q f ∙ taken_by) in
             seen new u _ (subst (λ (m : ℕ). ShowsOf new (moved (without_name now (new_name ∷ q) m) (old_name ∷ p) (new_name ∷ q))) same
-                (replaced_shows old is now shows from to old_name new_name within under p q e f node (child_stands (Some node) p e found) new (may p q e f) replaced (taken_by ∙ ap (λ (m : ℕ). Some m) (sym same)) replaces))
+            (replaced_shows old is now shows from to old_name new_name within under p q e f node (child_stands (Some node) p e found) new (may p q e f) replaced (taken_by ∙ ap (λ (m : ℕ). Some m) (sym same)) replaces))

@@ -1,18 +1,17 @@
 -- What becomes of a map's entries becomes of the names that they stand for.
 use Rattle.std.specs.Prelude.{map, IsSome}
-use Rattle.std.proofs.Common.{◌≡◌, ◌≢◌, cond, ℕ, Bool, true, false, List, [], ◌∷◌, Option, Some, None, refl, sym, ap, subst, ◌∙◌}
+use Rattle.std.proofs.Common.{◌≡◌, cond, ℕ, Bool, true, false, List, [], ◌∷◌, Option, Some, None, refl, sym, ap, subst, ◌∙◌}
 use Rattle.std.proofs.lemmas.Bool.{true≢false}
 use Rattle.std.proofs.lemmas.Cmp.{eq_by_cmp_equiv}
 use Rattle.std.specs.Ordering.{nat_cmp, is_eq, eq_by_cmp}
-use Rattle.std.specs.Cmp.{IsTotalOrder}
 use Rattle.std.specs.Cmp.Lexicographic.{slice_cmp, nat_list_cmp_total}
 use Rattle.std.specs.declared.cmp.Ordering.{Ordering}
 use Rattle.std.specs.declared.cmp.Ordering.TheVariants.{Less, Equal, Greater}
-use Rattle.std.specs.FinMap.{IsAntisymmetric, nat_cmp-IsAntisymmetric, slice_cmp-IsAntisymmetric, same_map, get, insert, remove, empty, find, put, get-empty, get-insert, get-remove, get-from_entries, from_entries}
+use Rattle.std.specs.FinMap.{IsAntisymmetric, nat_cmp-IsAntisymmetric, slice_cmp-IsAntisymmetric, same_map, get, insert, remove, find, put, get-empty, get-insert, get-remove, get-from_entries}
 use Rattle.std.specs.FinMap.Entries.{find-put}
 use Rattle.std.specs.Map.{lookup, remove_entry, set_value}
-use Rattle.std.specs.BTreeMap.{insert_entry, is_at}
-use Rattle.kern_names.specs.Listing.{Listed, listed}
+use Rattle.std.specs.BTreeMap.{insert_entry}
+use Rattle.kern_names.specs.Listing.{listed}
 
 abbrev pub name_cmp : List ℕ → List ℕ → Ordering
 name_cmp = slice_cmp nat_cmp
@@ -95,7 +94,7 @@ module _ {K : Type 0} (spelling : K → List ℕ) where
   replaced_in name node q [] h = absurd cc
   replaced_in name node q (e ∷ es) h =
       elim (is_eq (name_cmp name (spelling e.0))) as (λ b. is_eq (name_cmp name (spelling e.0)) ≡ b → IsSome (cond b (Some e.1) (lookup (λ k. is_eq (name_cmp name (spelling k))) es))
-          → find name_cmp q (spelled (cond b ((e.0, node) ∷ es) (e ∷ set_value (λ k. is_eq (name_cmp name (spelling k))) es node))) ≡ cond (eq_by_cmp name_cmp q name) (Some node) (find name_cmp q (spelled (e ∷ es)))) [
+      → find name_cmp q (spelled (cond b ((e.0, node) ∷ es) (e ∷ set_value (λ k. is_eq (name_cmp name (spelling k))) es node))) ≡ cond (eq_by_cmp name_cmp q name) (Some node) (find name_cmp q (spelled (e ∷ es)))) [
         | true ↦ λ t h. subst (λ (n : List ℕ). find name_cmp q (spelled ((e.0, node) ∷ es)) ≡ cond (eq_by_cmp name_cmp q n) (Some node) (find name_cmp q (spelled (e ∷ es)))) (sym (same_name name (spelling e.0) t))
             (shadowed (eq_by_cmp name_cmp q (spelling e.0)) (Some node) (Some e.1) _)
         | false ↦ λ t h. ap (cond (eq_by_cmp name_cmp q (spelling e.0)) (Some e.1)) (replaced_in name node q es h)

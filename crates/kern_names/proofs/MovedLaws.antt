@@ -8,7 +8,7 @@ use Rattle.kern_model.specs.Name.{Path, Names, renamed}
 use Rattle.kern_model.specs.State.{root}
 use Rattle.kern_model.proofs.BelowLaws.{get_elsewhere, get_old, get_new}
 use Rattle.kern_names.specs.Edges.{Edges, Parents, step, resolve, HasPath, IsTree}
-use Rattle.kern_names.proofs.ShownLaws.{below_cases, not_child, not_longer, none_below, none_some, same_node, nothing, apart}
+use Rattle.kern_names.proofs.ShownLaws.{below_cases, not_longer, none_below, none_some, same_node, nothing, apart}
 
 module _ (edge after : Edges) (up parents : Parents) (tree : IsTree edge up) (from to node : ℕ) (old_name new_name : List ℕ) (old_path new_path : Path)
     (at : resolve edge old_path ≡ Some from) (into : resolve edge new_path ≡ Some to) (within : IsSome (up from)) (under : IsSome (up to))

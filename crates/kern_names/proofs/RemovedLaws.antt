@@ -7,7 +7,7 @@ use Rattle.kern_model.specs.Name.{Path, Names, is_same_path}
 use Rattle.kern_model.specs.State.{root}
 use Rattle.kern_model.proofs.NamesLaws.{paths_total}
 use Rattle.kern_model.proofs.BelowLaws.{same_test, other_test}
-use Rattle.kern_names.specs.Edges.{Edges, Parents, step, resolve, HasPath, IsTree}
+use Rattle.kern_names.specs.Edges.{Edges, Parents, step, resolve, IsTree}
 use Rattle.kern_names.proofs.ShownLaws.{name_cases, not_child, none_some, same_node, apart}
 
 module _ (edge after : Edges) (up parents : Parents) (tree : IsTree edge up) (directory node : ℕ) (name : List ℕ) (path : Path)

@@ -3,7 +3,7 @@ use Rattle.std.specs.Prelude.{is_some, IsSome, map, not, ◌||◌}
 use Rattle.std.proofs.Common.{◌≡◌, ◌≢◌, cond, ℕ, Bool, true, false, List, [], ◌∷◌, Option, None, Some, refl, ap, sym, subst, ◌∙◌, ◌⊎◌, inl, inr}
 use Rattle.std.proofs.lemmas.Bool.{cases_eq, true≢false}
 use Rattle.std.specs.List.{list_any}
-use Rattle.std.specs.FinMap.{get, insert, empty, entries, get-insert, get-empty, contains_key-keys}
+use Rattle.std.specs.FinMap.{get, empty, entries, get-insert, get-empty, contains_key-keys}
 use Rattle.std.specs.FinSet as set
 use Rattle.std.specs.Ordering.{nat_cmp}
 use Rattle.kern_model.specs.Name.{Path, Names, path_cmp, is_same_path, is_in, has_entries}
@@ -12,10 +12,10 @@ use Rattle.kern_model.proofs.NamesLaws.{paths_total}
 use Rattle.kern_model.proofs.BelowLaws.{same_test, other_test, path_from_test}
 use Rattle.kern_model.proofs.EntryLaws.{no_entry}
 use Rattle.kern_names.specs.Tree.{Tree, has_directory, root_alone}
-use Rattle.kern_names.specs.Edges.{step, resolve, HasPath, IsTree, Shows, edges_of, parents_of}
+use Rattle.kern_names.specs.Edges.{step, resolve, edges_of, parents_of}
 use Rattle.kern_names.specs.Changes.{IsRootAlone}
 use Rattle.kern_names.proofs.ShownLaws.{none_some, same_node, nothing}
-use Rattle.kern_names.proofs.InsideLaws.{Directories, ShowsOf, IsTreeOf, in_more, beside_more, is_up, named, some_by}
+use Rattle.kern_names.proofs.InsideLaws.{Directories, ShowsOf, IsTreeOf, in_more, beside_more, some_by}
 
 module _ (alone : Directories) (is : IsRootAlone alone) where
   step_none : (o : Option ℕ) (c : List ℕ) → step (edges_of alone) o c ≡ None

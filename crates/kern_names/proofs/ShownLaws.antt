@@ -1,6 +1,6 @@
 -- Paths, and what stands under them.
 use Rattle.std.proofs.Common.{◌≡◌, ◌≢◌, ℕ, List, [], ◌∷◌, ◌++◌, length, Option, None, Some, true, false, refl, ap, sym, ◌∙◌, arith, length-append, ◌⊎◌, inl, inr}
-use Rattle.std.specs.Prelude.{is_some, IsSome, nat_eq}
+use Rattle.std.specs.Prelude.{IsSome, nat_eq}
 use Rattle.std.proofs.lemmas.Bool.{false≢true}
 use Rattle.std.specs.Cmp.Lexicographic.{pointwise, bytes_decides}
 use Rattle.kern_model.specs.Name.{Path, below}

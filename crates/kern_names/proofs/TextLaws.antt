@@ -1,10 +1,9 @@
 -- The components of a path's text, a byte at a time.
 use Rattle.std.specs.Prelude.{slice_range, nat_lt, filter, ◌==◌}
-use Rattle.std.proofs.Common.{◌≡◌, ◌≢◌, ℕ, ◌+◌, ◌-◌, ◌<◌, ◌≤◌, Bool, true, false, cond, List, [], ◌∷◌, ◌++◌, length, get_or, take, drop, refl, ap, sym, ◌∙◌, arith, eqb, length-drop, append_assoc}
+use Rattle.std.proofs.Common.{◌≡◌, ◌≢◌, ℕ, ◌+◌, ◌-◌, ◌<◌, ◌≤◌, false, cond, List, [], ◌∷◌, ◌++◌, length, get_or, take, drop, refl, ap, sym, ◌∙◌, arith, eqb, length-drop, append_assoc}
 use Rattle.std.proofs.lemmas.Bool.{false_from_ne_true, eqb-true}
 use Rattle.std.proofs.lemmas.List.{drop_more, take_more, get_or-drop}
 use Rattle.std.specs.List.{slice_split, onto_first}
-use Rattle.kern_model.specs.Name.{components}
 
 -- the parts of a text, with a run of bytes before the first
 abbrev onto_all : List ℕ → List (List ℕ) → List (List ℕ)

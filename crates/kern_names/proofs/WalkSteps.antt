@@ -1,7 +1,7 @@
 -- A walk goes on by a component.
 use Rattle.std.specs.Prelude.{length, ◌==◌, find as list_find, if◌then◌else◌}
 use Rattle.std.specs.Option.{option_map}
-use Rattle.std.proofs.Common.{◌≡◌, ◌≢◌, ℕ, Bool, true, false, List, [], ◌∷◌, Option, None, Some, cond, refl, ap, sym, subst, ◌∙◌}
+use Rattle.std.proofs.Common.{◌≡◌, ◌≢◌, ℕ, Bool, true, false, List, [], ◌∷◌, Option, None, Some, cond, refl, ap, sym, ◌∙◌}
 use Rattle.std.proofs.lemmas.Bool.{eq-eqb, true≢false}
 use Rattle.std.specs.FinMap.{get, entries, find, get-entries}
 use Rattle.sp_base.specs.declared.errno.Errno.TheVariants.{Enoent, Enotdir, Enametoolong}
@@ -42,7 +42,7 @@ module _ (s : State) (path : Path) (parts : List (List ℕ)) (component : List �
       on [] ne = absurd (ne refl)
       on (next ∷ l) ne =
           ap (λ b. if b then walk_from s path (next ∷ l) slash else if is_up component then walk_from s (parent path) (next ∷ l) slash
-              else unless_fault (through s (get s.names (component ∷ path))) (walk_from s (component ∷ path) (next ∷ l) slash)) here
+          else unless_fault (through s (get s.names (component ∷ path))) (walk_from s (component ∷ path) (next ∷ l) slash)) here
           ∙ ap (λ b. if b then walk_from s (parent path) (next ∷ l) slash else unless_fault (through s (get s.names (component ∷ path))) (walk_from s (component ∷ path) (next ∷ l) slash)) up
           ∙ ap (λ o. unless_fault (through s o) (walk_from s (component ∷ path) (next ∷ l) slash)) there
           ∙ ap (λ b. unless_fault (if b then None else Some Enotdir) (walk_from s (component ∷ path) (next ∷ l) slash)) directory

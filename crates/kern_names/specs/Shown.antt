@@ -8,7 +8,10 @@ use Rattle.std.specs.FinMap.{same_map, nat_cmp-IsAntisymmetric}
 use Rattle.std.specs.FinSet.{same_set}
 use Rattle.kern_model.proofs.NamesLaws.{paths_total, exact_paths}
 use Rattle.kern_names.specs.Tree.{Tree}
-use Rattle.kern_names.specs.Edges.{Edges, Parents, Shows, Shown}
+use Rattle.std.specs.Prelude.{ℕ}
+use Rattle.std.specs.BTreeMap.{BTreeMap}
+use Rattle.kern_names.specs.declared.directories.Directory.{Directory}
+use Rattle.kern_names.specs.Edges.{Edges, Parents, Shows, Shown, edges_of, parents_of}
 
 -- trees that show the same are one
 pub one_tree : (edge : Edges) (up : Parents) (t u : Tree) → Shows edge up t → Shows edge up u → t ≡ u
@@ -17,5 +20,12 @@ one_tree edge up t u a b =
     let directories : t.directories ≡ u.directories = same_set nat_cmp_total nat_cmp-IsAntisymmetric t.directories u.directories (λ n. a.1 n ∙ sym (b.1 n)) in
     λ i. record { names = names i; directories = directories i }
 
-pub Shown-prop : (edge : Edges) (up : Parents) → IsProp (Shown edge up)
+Shown-prop : (edge : Edges) (up : Parents) → IsProp (Shown edge up)
 Shown-prop edge up u v = Σ_prop_path (λ t. ×_prop (Π_prop (λ p. Coded-set (coded_option coded_ℕ) _ _)) (Π_prop (λ n. Coded-set coded_bool _ _))) (one_tree edge up u.0 v.0 u.1 v.1)
+
+-- the tree that a map of directories stands for
+abbrev pub ShownBy : BTreeMap ℕ Directory → Type 0
+ShownBy directories = Shown (edges_of directories) (parents_of directories)
+
+pub ShownBy-prop : (directories : BTreeMap ℕ Directory) → IsProp (ShownBy directories)
+ShownBy-prop directories = Shown-prop (edges_of directories) (parents_of directories)

@@ -1,10 +1,10 @@
 -- What the directories are to their callers.
-use Rattle.std.specs.Prelude.{◌≡◌, ℕ, ◌∷◌, [], List, Bool, false, Some, None, IsTrue, IsSome, refl, if◌then◌else◌}
+use Rattle.std.specs.Prelude.{◌≡◌, ℕ, ◌∷◌, [], List, Bool, Some, IsTrue, refl, if◌then◌else◌}
 use Rattle.std.specs.Ordering.{nat_cmp}
 use Rattle.std.specs.Coded.{Coded, code_by, coded×, coded_ℕ}
 use Rattle.std.specs.FinMap.{get, empty, insert, remove}
 use Rattle.std.specs.FinSet as set
-use Rattle.kern_model.specs.Name.{Path, Names, has_entries, renamed}
+use Rattle.kern_model.specs.Name.{Path, Names, renamed}
 use Rattle.kern_model.specs.NameMap.{names_code}
 use Rattle.kern_model.specs.State.{root}
 
@@ -25,6 +25,10 @@ root_alone = record { names = insert empty [] root; directories = set.insert set
 abbrev pub has_directory : Tree → ℕ → Bool
 has_directory t node = set.contains t.directories node
 
+-- a path leads to a node
+abbrev pub LeadsTo : Tree → Path → ℕ → Type 0
+LeadsTo t path node = get t.names path ≡ Some node
+
 -- the directories with one more where a node is one
 abbrev pub with_directory : set.FinSet nat_cmp → ℕ → Bool → set.FinSet nat_cmp
 with_directory directories node is_directory = if is_directory then set.insert directories node else directories
@@ -40,3 +44,22 @@ without_name t path node = record { names = remove t.names path; directories = s
 -- the tree after what was `old`, and each path below it, is `new`
 abbrev pub moved : Tree → Path → Path → Tree
 moved t old new = record t { names = renamed t.names old new }
+
+-- a directory stands under a path
+pub record IsPlace (t : Tree) (path : Path) : Type 0 where
+  pub node : ℕ
+  pub stands : LeadsTo t path node
+  pub directory : IsTrue (has_directory t node)
+
+-- a node stands under some path
+pub record HasPlace (t : Tree) (node : ℕ) : Type 0 where
+  pub path : Path
+  pub stands : LeadsTo t path node
+
+-- the root is a directory, each other path stands in one, and a directory has one path
+pub record IsWhole (t : Tree) : Type 0 where
+  pub top : LeadsTo t [] root
+  pub root_directory : IsTrue (has_directory t root)
+  pub parents : (name : List ℕ) (path : Path) (node : ℕ) → LeadsTo t (name ∷ path) node → IsPlace t path
+  pub placed : (node : ℕ) → IsTrue (has_directory t node) → HasPlace t node
+  pub once : (path other : Path) (node : ℕ) → IsTrue (has_directory t node) → LeadsTo t path node → LeadsTo t other node → path ≡ other

@@ -2,10 +2,11 @@ ghost use Rattle.std.specs.Prelude.{◌≡◌, ◌≢◌, ℕ, ◌∷◌, None, 
 ghost use Rattle.std.specs.Option.{option_map};
 ghost use Rattle.std.specs.FinMap.{get};
 ghost use Rattle.kern_model.specs.Name.{Path, has_entries, parent, below};
-ghost use Rattle.kern_names.specs.Edges.{Shown, edges_of, parents_of};
-ghost use Rattle.kern_names.specs.Shown.{Shown-prop};
-ghost use Rattle.kern_names.specs.Tree.{root_alone, has_directory, with_name, without_name, moved};
+ghost use Rattle.kern_names.specs.Shown.{ShownBy, ShownBy-prop};
+ghost use Rattle.kern_names.specs.Tree.{IsWhole, LeadsTo, root_alone, has_directory, with_name, without_name, moved};
 ghost use Rattle.kern_names.specs.Requests.{MayHaveName, MayGo, MayMove, MayReplace};
+
+mod walk;
 
 use crate::entries;
 use crate::listing::Listing;
@@ -29,8 +30,8 @@ pub struct Directory {
 #[derive(Drop)]
 pub struct Directories {
     alloc: Global,
-    pub(crate) directories: BTreeMap<u64, Directory>,
-    ghost shown: { Shown (edges_of directories) (parents_of directories) } by { Shown-prop (edges_of directories) (parents_of directories) },
+    directories: BTreeMap<u64, Directory>,
+    ghost shown: { ShownBy directories } by { ShownBy-prop directories },
 }
 
 impl Model for Directories {
@@ -58,9 +59,18 @@ impl Directories {
         })
     }
 
+    /// That the names are a tree, for callers that know of them only what the calls before said;
+    /// does nothing.
+    pub fn is_whole(&self)
+        ensures { IsWhole self.now }
+    {
+        let _ = &self.directories;
+    }
+
     /// The node under a name in a directory.
     pub fn child(&self, directory: NodeNo, name: &[u8]) -> Option<NodeNo>
-        ensures { (path : Path) → get self.now.names path ≡ Some directory.0 → get self.now.names (name.now ∷ path) ≡ option_map (λ node. node.0) result }
+        ensures { (path : Path) → LeadsTo self.now path directory.0
+            → get self.now.names (name.now ∷ path) ≡ option_map (λ node. node.0) result }
     {
         entries::child(&self.directories, directory.0, name).map(NodeNo)
     }
@@ -75,7 +85,8 @@ impl Directories {
     /// Whether a directory is another node, or stands somewhere below it.
     pub fn is_inside(&self, directory: NodeNo, top: NodeNo) -> bool
         requires { IsTrue (has_directory self.now directory.0) }
-        ensures { (path above : Path) → get self.now.names path ≡ Some directory.0 → get self.now.names above ≡ Some top.0 → result ≡ is_some (below path above) }
+        ensures { (path above : Path) → LeadsTo self.now path directory.0 → LeadsTo self.now above top.0
+            → result ≡ is_some (below path above) }
     {
         let directories = &self.directories;
         let mut at = directory.0;
@@ -98,9 +109,11 @@ impl Directories {
         is_directory: bool,
     ) -> Result<(), NoMemory>
         requires within { IsTrue (has_directory self.old directory.0) }
-        requires free { (path : Path) → get self.old.names path ≡ Some directory.0 → get self.old.names (name.now ∷ path) ≡ None }
+        requires free { (path : Path) → LeadsTo self.old path directory.0
+            → get self.old.names (name.now ∷ path) ≡ None }
         requires new { MayHaveName self.old node.0 is_directory }
-        ensures ok { (path : Path) → get self.old.names path ≡ Some directory.0 → OnOk result (self.new ≡ with_name self.old (name.now ∷ path) node.0 is_directory) }
+        ensures ok { (path : Path) → LeadsTo self.old path directory.0
+            → OnOk result (self.new ≡ with_name self.old (name.now ∷ path) node.0 is_directory) }
         ensures err { OnErr result (self.new ≡ self.old) }
     {
         entries::add(
@@ -116,8 +129,9 @@ impl Directories {
     /// Takes a name of a directory away. Its node is no directory from then on.
     pub fn remove(&mut self, directory: NodeNo, name: &[u8])
         requires within { IsTrue (has_directory self.old directory.0) }
-        requires may { (path : Path) → get self.old.names path ≡ Some directory.0 → MayGo self.old (name.now ∷ path) }
-        ensures { (path : Path) (node : ℕ) → get self.old.names path ≡ Some directory.0 → get self.old.names (name.now ∷ path) ≡ Some node
+        requires may { (path : Path) → LeadsTo self.old path directory.0 → MayGo self.old (name.now ∷ path) }
+        ensures { (path : Path) (node : ℕ)
+            → LeadsTo self.old path directory.0 → LeadsTo self.old (name.now ∷ path) node
             → self.new ≡ without_name self.old (name.now ∷ path) node }
     {
         match entries::child(&self.directories, directory.0, name) {
@@ -129,7 +143,8 @@ impl Directories {
     /// Whether a directory has no names.
     pub fn is_empty(&self, directory: NodeNo) -> bool
         requires { IsTrue (has_directory self.now directory.0) }
-        ensures { (path : Path) → get self.now.names path ≡ Some directory.0 → has_entries self.now.names path ≡ not result }
+        ensures { (path : Path) → LeadsTo self.now path directory.0
+            → has_entries self.now.names path ≡ not result }
     {
         match self.directories.get(&directory.0) {
             Some(directory) => directory.entries.is_empty(),
@@ -141,7 +156,8 @@ impl Directories {
     pub fn parent(&self, directory: NodeNo) -> NodeNo
         requires { IsTrue (has_directory self.now directory.0) }
         ensures within { IsTrue (has_directory self.now result.0) }
-        ensures above { (path : Path) → get self.now.names path ≡ Some directory.0 → get self.now.names (parent path) ≡ Some result.0 }
+        ensures above { (path : Path) → LeadsTo self.now path directory.0
+            → LeadsTo self.now (parent path) result.0 }
     {
         NodeNo(entries::parent(&self.directories, directory.0))
     }
@@ -158,8 +174,9 @@ impl Directories {
     ) -> Result<(), NoMemory>
         requires within { IsTrue (has_directory self.old from.0) }
         requires under { IsTrue (has_directory self.old to.0) }
-        requires may { (path above : Path) → get self.old.names path ≡ Some from.0 → get self.old.names above ≡ Some to.0 → MayMove self.old (old_name.now ∷ path) (new_name.now ∷ above) }
-        ensures ok { (path above : Path) → get self.old.names path ≡ Some from.0 → get self.old.names above ≡ Some to.0
+        requires may { (path above : Path) → LeadsTo self.old path from.0 → LeadsTo self.old above to.0
+            → MayMove self.old (old_name.now ∷ path) (new_name.now ∷ above) }
+        ensures ok { (path above : Path) → LeadsTo self.old path from.0 → LeadsTo self.old above to.0
             → OnOk result (self.new ≡ moved self.old (old_name.now ∷ path) (new_name.now ∷ above)) }
         ensures err { OnErr result (self.new ≡ self.old) }
     {
@@ -182,9 +199,13 @@ impl Directories {
     pub fn replace(&mut self, from: NodeNo, old_name: &[u8], to: NodeNo, new_name: &[u8])
         requires within { IsTrue (has_directory self.old from.0) }
         requires under { IsTrue (has_directory self.old to.0) }
-        requires may { (path above : Path) → get self.old.names path ≡ Some from.0 → get self.old.names above ≡ Some to.0 → MayReplace self.old (old_name.now ∷ path) (new_name.now ∷ above) }
-        ensures { (path above : Path) (replaced : ℕ) → get self.old.names path ≡ Some from.0 → get self.old.names above ≡ Some to.0 → get self.old.names (new_name.now ∷ above) ≡ Some replaced
-            → self.new ≡ moved (without_name self.old (new_name.now ∷ above) replaced) (old_name.now ∷ path) (new_name.now ∷ above) }
+        requires may { (path above : Path) → LeadsTo self.old path from.0 → LeadsTo self.old above to.0
+            → MayReplace self.old (old_name.now ∷ path) (new_name.now ∷ above) }
+        ensures { (path above : Path) (replaced : ℕ)
+            → LeadsTo self.old path from.0 → LeadsTo self.old above to.0
+            → LeadsTo self.old (new_name.now ∷ above) replaced
+            → self.new ≡ moved (without_name self.old (new_name.now ∷ above) replaced)
+            (old_name.now ∷ path) (new_name.now ∷ above) }
     {
         let Some(node) = entries::child(&self.directories, from.0, old_name) else {
             unreachable!()

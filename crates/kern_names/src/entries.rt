@@ -57,7 +57,8 @@ fn put(
     node: u64,
 ) -> Result<(), NoMemory>
     requires { IsSome (parents_of directories.old directory) }
-    ensures ok { OnOk result (SetsName directories.old directories.new directory name.items (Some node)) }
+    ensures ok { OnOk result
+        (SetsName directories.old directories.new directory name.items (Some node)) }
     ensures err { OnErr result (Keeps directories.old directories.new) }
 {
     match directories.get_mut(&directory) {
@@ -136,7 +137,8 @@ pub(crate) fn add(
 ) -> Result<(), NoMemory>
     requires within { IsSome (parents_of directories.old directory) }
     requires new { parents_of directories.old node ≡ None }
-    ensures ok { OnOk result (AddsName directories.old directories.new directory name.now node is_directory) }
+    ensures ok { OnOk result
+        (AddsName directories.old directories.new directory name.now node is_directory) }
     ensures err { OnErr result (Keeps directories.old directories.new) }
 {
     let name = Vec::from_slice(alloc, name)?;
@@ -177,7 +179,8 @@ pub(crate) fn rename(
     requires within { IsSome (parents_of directories.old to) }
     requires there { IsSome (edges_of directories.old from old_name.now) }
     requires free { edges_of directories.old to new_name.now ≡ None }
-    ensures ok { OnOk result (MovesName directories.old directories.new from old_name.now to new_name.now node) }
+    ensures ok { OnOk result
+        (MovesName directories.old directories.new from old_name.now to new_name.now node) }
     ensures err { OnErr result (Keeps directories.old directories.new) }
 {
     let name = Vec::from_slice(alloc, new_name)?;

@@ -8,7 +8,6 @@ mod path_text;
 #[cfg(test)]
 mod tests;
 mod walk;
-mod walks;
 
 pub use directories::{Directories, ROOT};
 pub use walk::{Last, Walked};

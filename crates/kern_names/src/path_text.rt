@@ -25,7 +25,8 @@ fn skip_slashes(text: &[u8], from: usize) -> usize
 fn component_end(text: &[u8], from: usize) -> usize
     requires within { from < length text.now }
     requires other { slice_index text.now from ≢ 47 }
-    ensures split { components (drop from text.now) ≡ slice_range text.now from result ∷ components (drop result text.now) }
+    ensures split { components (drop from text.now)
+        ≡ slice_range text.now from result ∷ components (drop result text.now) }
     ensures behind { from < result }
     ensures within { result ≤ length text.now }
 {
@@ -41,8 +42,10 @@ fn component_end(text: &[u8], from: usize) -> usize
 pub(crate) fn next_component(text: &[u8], from: usize) -> Option<(usize, usize)>
     requires { from ≤ length text.now }
     ensures none { IfNone result (components (drop from text.now) ≡ []) }
-    ensures some { IfSome result (λ ends. components (drop from text.now) ≡ slice_range text.now ends.0 ends.1 ∷ components (drop ends.1 text.now)) }
-    ensures ends { IfSome result (λ ends. (from ≤ ends.0) × (ends.0 < ends.1) × (ends.1 ≤ length text.now)) }
+    ensures some { IfSome result (λ ends. components (drop from text.now)
+        ≡ slice_range text.now ends.0 ends.1 ∷ components (drop ends.1 text.now)) }
+    ensures ends { IfSome result (λ ends.
+        (from ≤ ends.0) × (ends.0 < ends.1) × (ends.1 ≤ length text.now)) }
 {
     let start = skip_slashes(text, from);
     if start == text.len() {

@@ -9,7 +9,7 @@ use Rattle.kern_names.proofs.entries.add.Goals.{then-is_directory+in_ok-make, el
 pub returns-then-is_err-clause-err : goal.returns-then-is_err-clause-err
 returns-then-is_err-clause-err c =
     let others : (n : ℕ) → n ≢ c.args.node → tree.get nat_cmp c.if-is_directory.directories n ≡ tree.get nat_cmp c.args.directories.now n = λ n ne. elim c.if-is_directory.branch [
-        | then-is_directory+in_ok-make w ↦ grind (arith, common_steps)
-        | else-is_directory w ↦ grind (arith, common_steps)
-      ] in
+      | then-is_directory+in_ok-make w ↦ grind (arith, common_steps)
+      | else-is_directory w ↦ grind (arith, common_steps)
+    ] in
     undone c.args.directories.now c.if-is_directory.directories c.put.new.directories c.unmake.new.directories c.args.node c.requires.new others (search rules) c.unmake.ensures

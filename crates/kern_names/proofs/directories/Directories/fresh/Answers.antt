@@ -1,4 +1,3 @@
-use Rattle.std.proofs.Common.{◌≡◌}
 use Rattle.kern_names.specs.Tree.{root_alone}
 use Rattle.kern_names.proofs.InsideLaws.{seen}
 use Rattle.kern_names.proofs.RootLaws.{root_tree, root_shows}

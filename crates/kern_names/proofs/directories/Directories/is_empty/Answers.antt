@@ -1,9 +1,8 @@
-use Rattle.std.proofs.Common.{◌≡◌, ◌≢◌, ◌∷◌, ℕ, List, Option, None, Some, ap, sym, ◌∙◌, arith}
+use Rattle.std.proofs.Common.{◌≡◌, ◌∷◌, ℕ, List, Some, ap, sym, ◌∙◌, arith}
 use Rattle.std.proofs.lemmas.Grind.{common_steps}
 use Rattle.std.specs.BTreeMap as tree
 use Rattle.std.specs.Ordering.{nat_cmp}
 use Rattle.std.specs.FinMap.{get}
-use Rattle.kern_names.specs.declared.directories.Directory.{Directory}
 use Rattle.kern_names.specs.Edges.{name_in}
 use Rattle.kern_names.proofs.InsideLaws.{shown_as, named}
 use Rattle.kern_names.proofs.RootLaws.{has_entries_by}

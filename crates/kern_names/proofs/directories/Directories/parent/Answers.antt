@@ -1,4 +1,3 @@
-use Rattle.std.proofs.Common.{◌≡◌}
 use Rattle.kern_names.proofs.InsideLaws.{shown_as}
 use Rattle.kern_names.proofs.RootLaws.{above_within}
 use Rattle.kern_names.proofs.directories.Directories.parent.Goals as goal

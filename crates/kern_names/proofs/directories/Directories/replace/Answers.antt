@@ -1,4 +1,4 @@
-use Rattle.std.proofs.Common.{◌≡◌, ◌∷◌, Option, Some, None, ap, sym, ◌∙◌}
+use Rattle.std.proofs.Common.{sym, ◌∙◌}
 use Rattle.kern_names.proofs.ShownLaws.{none_by}
 use Rattle.kern_names.proofs.InsideLaws.{shown_as}
 use Rattle.kern_names.proofs.InsideMoves.{moved_there, replaced_there, two_nodes, two_places, replaced_bare, replace_shown, replace_tree, replace_is}
@@ -35,9 +35,12 @@ replace-requires-clause-two c =
     c.in-Some.node c.in-Some-child.replaced c.in-Some.ensures c.in-Some-child.ensures
 
 pub invariant_of-self-inside : goal.invariant_of-self-inside
-invariant_of-self-inside c = (replace_shown c.self.inside.directories c.self.invariant c.args.self.now (shown_as c.self.inside.directories c.self.inside.shown c.args.self.now c.self.view_is)
-    c.args.from.0 c.args.to.0 c.args.old_name.now c.args.new_name.now c.requires.within c.requires.under c.requires.may
-    c.in-Some.node c.in-Some-child.replaced c.in-Some.ensures c.in-Some-child.ensures c.replace.new.directories c.replace.ensures, tt)
+invariant_of-self-inside c = (
+  replace_shown c.self.inside.directories c.self.invariant c.args.self.now (shown_as c.self.inside.directories c.self.inside.shown c.args.self.now c.self.view_is)
+      c.args.from.0 c.args.to.0 c.args.old_name.now c.args.new_name.now c.requires.within c.requires.under c.requires.may
+      c.in-Some.node c.in-Some-child.replaced c.in-Some.ensures c.in-Some-child.ensures c.replace.new.directories c.replace.ensures,
+  tt,
+)
 
 pub invariant_of-self : goal.invariant_of-self
 invariant_of-self c =

@@ -1,12 +1,11 @@
 ghost use Rattle.std.specs.Prelude.{◌≡◌, ℕ, ◌<◌, ◌≤◌, Some, IsTrue, length, drop, slice_range};
-ghost use Rattle.std.specs.FinMap.{get};
 ghost use Rattle.kern_model.specs.Name.{Path, components, ends_with_slash};
 ghost use Rattle.kern_model.specs.State.{State, directory_of};
 ghost use Rattle.kern_model.specs.Walk.{walk_last, walk_from, walk};
-ghost use Rattle.kern_names.specs.Tree.{has_directory};
+ghost use Rattle.kern_names.specs.Tree.{LeadsTo, has_directory};
 ghost use Rattle.kern_names.specs.Reach.{HasNames, Reaches};
 
-use crate::directories::{Directories, ROOT};
+use super::{Directories, ROOT};
 use crate::path_text::{has_long_component, is_here, is_up, next_component};
 use crate::walk::{Last, Walked};
 use sp_base::{Errno, NodeNo};
@@ -18,8 +17,9 @@ impl Directories {
         requires short { length text.now ≤ 1023 }
         requires part { start < end }
         requires fits { end ≤ length text.now }
-        ensures { (s : State) (path : Path) → HasNames s self.now → get self.now.names path ≡ Some at.0
-            → Reaches self.now text.now (walk_last s path (slice_range text.now start end) (ends_with_slash text.now)) result }
+        ensures { (s : State) (path : Path) → HasNames s self.now → LeadsTo self.now path at.0
+            → Reaches self.now text.now
+            (walk_last s path (slice_range text.now start end) (ends_with_slash text.now)) result }
     {
         let name = &text[start..end];
         if is_here(name) {
@@ -47,8 +47,9 @@ impl Directories {
         requires within { IsTrue (has_directory self.now at.0) }
         requires short { length text.now ≤ 1023 }
         requires fits { from ≤ length text.now }
-        ensures { (s : State) (path : Path) → HasNames s self.now → get self.now.names path ≡ Some at.0
-            → Reaches self.now text.now (walk_from s path (components (drop from text.now)) (ends_with_slash text.now)) result }
+        ensures { (s : State) (path : Path) → HasNames s self.now → LeadsTo self.now path at.0
+            → Reaches self.now text.now
+            (walk_from s path (components (drop from text.now)) (ends_with_slash text.now)) result }
     {
         let Some((start, end)) = next_component(text, from) else {
             return Walked::Found(at, None);
@@ -77,9 +78,10 @@ impl Directories {
     pub fn walk(&self, working: NodeNo, text: &[u8]) -> Walked
         requires within { IsTrue (has_directory self.now working.0) }
         requires short { length text.now ≤ 1023 }
-        ensures { (s : State) (pid : ℕ) → HasNames s self.now → directory_of s pid ≡ working.0 → Reaches self.now text.now (walk s pid text.now) result }
+        ensures { (s : State) (pid : ℕ) → HasNames s self.now → directory_of s pid ≡ working.0
+            → Reaches self.now text.now (walk s pid text.now) result }
     {
-        let _ = &self.directories;
+        self.is_whole();
         if text.is_empty() {
             return Walked::Fault(Errno::Enoent);
         }
