@@ -1,5 +1,5 @@
 -- A script that was read says its text again.
-use Rattle.std.proofs.Common.{◌≡◌, ℕ, ◌+◌, ◌==◌, Bool, true, false, cond, List, [], ◌∷◌, ◌++◌, length, Option, Some, None, Result, Ok, Err, refl, sym, ap, subst, ◌∙◌, append_assoc, arith}
+use Rattle.std.proofs.Common.{◌≡◌, ℕ, ◌+◌, ◌==◌, Bool, true, false, cond, List, [], ◌∷◌, ◌++◌, length, Option, Some, None, Result, Ok, Err, refl, sym, ap, ◌∙◌, append_assoc, arith}
 use Rattle.std.specs.Prelude.{codes}
 use Rattle.std.specs.List.{flat_map, join_with_byte}
 use Rattle.std.specs.Str.{bytes_eq}
@@ -13,7 +13,7 @@ use Rattle.guest_script.specs.declared.script.Line.{Line}
 use Rattle.guest_script.specs.declared.script.Script.{Script}
 use Rattle.guest_script.specs.declared.script.Section.{Section}
 use Rattle.guest_script.specs.Pieces.{pieces_of}
-use Rattle.guest_script.specs.Script.{lines_of, words_of, is_name, name_of, guest_name, line_call, is_too_long, too_long, said, and_then, at_end, before, lines_from, section_from, sections_of, script_of, line_text, section_text, text_of}
+use Rattle.guest_script.specs.Script.{lines_of, words_of, is_name, name_of, guest_name, line_call, is_too_long, too_long, said, and_then, before, lines_from, section_from, sections_of, script_of, line_text, section_text, text_of}
 
 -- pieces, joined by their separator, are the bytes
 joined : (separator : ℕ) (bytes : List ℕ) → join_with_byte separator (pieces_of separator bytes) ≡ bytes

@@ -96,10 +96,10 @@ fn read_section(alloc: Global, first: &[u8], rest: &[u8]) -> Result<Section, Scr
     requires { length rest.now ≤ 2 ^ 24 }
     ensures ok { let name = said 1 (guest_name (words_of first.now)) in
         IfOk result (λ section.
-            and_then name (section_from (lines_of rest.now)) ≡ Ok (section ∷ [])) }
+        and_then name (section_from (lines_of rest.now)) ≡ Ok (section ∷ [])) }
     ensures err { let name = said 1 (guest_name (words_of first.now)) in
         IfErr result (λ e. (e ≡ out_of_memory)
-            ⊎ (and_then name (section_from (lines_of rest.now)) ≡ Err e)) }
+        ⊎ (and_then name (section_from (lines_of rest.now)) ≡ Err e)) }
     ensures runnable { IfOk result IsRunnable }
 {
     let name = name_of(alloc, first)?;
