@@ -4,6 +4,8 @@
 mod acted;
 mod kernel;
 mod parts;
+#[cfg(test)]
+mod tests;
 
 pub use acted::{Acted, Tried};
 pub use kernel::Kernel;

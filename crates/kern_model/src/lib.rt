@@ -12,8 +12,6 @@ mod outcome;
 mod path;
 mod path_text;
 mod plain;
-#[cfg(test)]
-mod tests;
 mod walk;
 
 pub use descriptors::Descriptors;

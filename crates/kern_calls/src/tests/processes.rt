@@ -1,11 +1,9 @@
 // Processes: how they come and go, and what they inherit.
-use crate::plain::Plain;
 use crate::tests::step::{
     F_GETFD, FROM_OFFSET, FROM_START, O_CLOEXEC, O_CREAT, O_RDONLY, O_RDWR, Step,
 };
-use crate::tests::{one_process, run, run_up};
+use crate::tests::{Both, one_process, run, run_up};
 use sp_base::Pid;
-use std::alloc::Global;
 use std::process::Abort;
 use std::test::Fail;
 
@@ -103,52 +101,48 @@ const FULL: &[(u32, Step, &str)] = &[
 ];
 
 /// Performs the rows, each by its process.
-fn run_all(
-    rt: &impl Abort,
-    alloc: Global,
-    kernel: &mut Plain,
-    rows: &[(u32, Step, &str)],
-) -> Result<(), Fail> {
+fn run_all(rt: &impl Abort, both: &mut Both, rows: &[(u32, Step, &str)]) -> Result<(), Fail> {
     for (pid, step, want) in rows {
-        run(rt, alloc, kernel, *pid, &[(*step, *want)])?;
+        run(rt, both, *pid, &[(*step, *want)])?;
     }
     Ok(())
 }
 
 #[test]
 fn lives(rt: HostRuntime) -> Result<(), Fail> {
-    let mut kernel = Plain::fresh(rt.alloc())?;
-    assert!(rt; !kernel.is_live(Pid(2)));
-    run_all(&rt, rt.alloc(), &mut kernel, LIVES)?;
+    let mut both = Both::fresh(rt.alloc())?;
+    assert!(rt; !both.plain.is_live(Pid(2)) && !both.kernel.is_live(Pid(2)));
+    run_all(&rt, &mut both, LIVES)?;
     for (pid, want) in [(0, false), (1, false), (2, true), (3, true), (4, true)] {
-        assert_eq!(rt; kernel.is_live(Pid(pid)), want, "process {pid}");
+        assert_eq!(rt; both.plain.is_live(Pid(pid)), want, "process {pid}");
+        assert_eq!(rt; both.kernel.is_live(Pid(pid)), want, "process {pid}");
     }
-    assert!(rt; !kernel.is_live(Pid(5)) && !kernel.is_live(Pid(258)));
-    assert!(rt; !kernel.is_full());
+    assert!(rt; !both.kernel.is_live(Pid(5)) && !both.kernel.is_live(Pid(258)));
+    assert!(rt; !both.plain.is_full() && !both.kernel.is_full());
     Ok(())
 }
 
 #[test]
 fn forks(rt: HostRuntime) -> Result<(), Fail> {
-    run_all(&rt, rt.alloc(), &mut Plain::fresh(rt.alloc())?, FORKS)
+    run_all(&rt, &mut Both::fresh(rt.alloc())?, FORKS)
 }
 
 #[test]
 fn execs(rt: HostRuntime) -> Result<(), Fail> {
-    run_all(&rt, rt.alloc(), &mut Plain::fresh(rt.alloc())?, EXECS)
+    run_all(&rt, &mut Both::fresh(rt.alloc())?, EXECS)
 }
 
 #[test]
 fn all_processes(rt: HostRuntime) -> Result<(), Fail> {
     let alloc = rt.alloc();
-    let mut kernel = one_process(alloc)?;
+    let mut both = one_process(alloc)?;
     let rows = [
         (Step::Open("/f", O_RDWR | O_CREAT), "0"),
         (Step::Write(0, "abc"), "3"),
         (Step::Lseek(0, 0, FROM_START), "0"),
     ];
-    run(&rt, alloc, &mut kernel, 2, &rows)?;
-    run_up(&rt, alloc, &mut kernel, Step::Fork, 3, 258)?;
-    assert!(rt; kernel.is_full());
-    run_all(&rt, alloc, &mut kernel, FULL)
+    run(&rt, &mut both, 2, &rows)?;
+    run_up(&rt, &mut both, Step::Fork, 3, 258)?;
+    assert!(rt; both.plain.is_full() && both.kernel.is_full());
+    run_all(&rt, &mut both, FULL)
 }

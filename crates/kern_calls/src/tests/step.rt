@@ -1,5 +1,5 @@
 // The operations of the tables.
-use crate::operation::{Ins, Op, Pieces};
+use kern_model::{Ins, Op, Pieces};
 use sp_base::{Call, Errno, Items, NoMemory, Octets, Words};
 use std::alloc::Global;
 

@@ -301,14 +301,14 @@ fn no_space(rt: HostRuntime) -> Result<(), Fail> {
         "/a", "/b", "/c", "/d", "/e", "/f", "/g", "/h", "/i", "/j", "/k", "/l", "/m", "/n", "/o",
         "/p",
     ];
-    let mut kernel = one_process(rt.alloc())?;
+    let mut both = one_process(rt.alloc())?;
     for name in names {
         let rows = [
             (Step::Open(name, O_RDWR | O_CREAT), "0"),
             (Step::Ftruncate(0, FULL), "0"),
             (Step::Close(0), "0"),
         ];
-        run(&rt, rt.alloc(), &mut kernel, 2, &rows)?;
+        run(&rt, &mut both, 2, &rows)?;
     }
-    run(&rt, rt.alloc(), &mut kernel, 2, NO_SPACE)
+    run(&rt, &mut both, 2, NO_SPACE)
 }

@@ -150,14 +150,7 @@ fn flags(rt: HostRuntime) -> Result<(), Fail> {
 
 #[test]
 fn all_descriptors(rt: HostRuntime) -> Result<(), Fail> {
-    let mut kernel = one_process(rt.alloc())?;
-    run_up(
-        &rt,
-        rt.alloc(),
-        &mut kernel,
-        Step::Open("/", O_RDONLY),
-        0,
-        128,
-    )?;
-    run(&rt, rt.alloc(), &mut kernel, 2, FULL)
+    let mut both = one_process(rt.alloc())?;
+    run_up(&rt, &mut both, Step::Open("/", O_RDONLY), 0, 128)?;
+    run(&rt, &mut both, 2, FULL)
 }
