@@ -13,9 +13,9 @@ use Rattle.kern_model.specs.State.{State, Process, opening, rows_in}
 use Rattle.kern_model.specs.Step.{Step}
 use Rattle.kern_model.specs.Act.{act, act_op}
 use Rattle.kern_model.specs.Journal.{state_of_step, after_entry, state_from, state_after}
-use Rattle.kern_model.specs.Laws.{HasTables}
+use Rattle.kern_model.specs.Sound.{HasTables}
 use Rattle.sp_base.proofs.TableLaws.{at_blank}
-use Rattle.kern_model.proofs.SoundLaws.{each_is}
+use Rattle.kern_model.proofs.Holds.{each_is}
 use Rattle.kern_model.proofs.ProcessLaws.{keeps_tables, attach_makes, fork_makes, exit_ends, call_keeps, exec_keeps}
 
 op_tables : (s : State) (pid : ℕ) (op : Op) (pieces : List (List ℕ)) (outcome : Outcome) (t : State) → act_op s pid op pieces ≡ Some (outcome, t) → HasTables s → HasTables t
@@ -43,7 +43,7 @@ opening_rows : (p : Option Process) → p ≡ None → IsSome p → length (rows
 opening_rows None e live = absurd cc
 opening_rows (Some p) e live = absurd cc
 
-opening_tables : HasTables opening
+pub opening_tables : HasTables opening
 opening_tables = record { numbers = refl; descriptors = λ pid live. opening_rows (at (replicate 258 None) pid) (at_blank 258 pid) live }
 
 -- the tables have their lengths after every journal

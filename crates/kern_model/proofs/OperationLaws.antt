@@ -15,7 +15,7 @@ use Rattle.kern_model.specs.Laws.{kept_row}
 use Rattle.kern_model.proofs.Errors.{no_error_is_zero}
 use Rattle.kern_model.proofs.ExecLaws.{exec_rows}
 use Rattle.kern_model.proofs.KeepLaws.{close_rows_directory}
-use Rattle.kern_model.proofs.SoundLaws.{each_is}
+use Rattle.kern_model.proofs.Holds.{each_is}
 use Rattle.kern_model.proofs.ProcessLaws.{Makes, attach_makes, fork_makes, exit_ends}
 
 -- a fault leaves every process

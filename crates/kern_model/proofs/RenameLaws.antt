@@ -15,7 +15,7 @@ use Rattle.kern_model.specs.Links.{is_root, is_below, moved, rename_to_missing, 
 use Rattle.kern_model.specs.Laws.{HasParents, MovesDirectory}
 use Rattle.kern_model.proofs.Errors.{no_error_is_zero}
 use Rattle.kern_model.proofs.BelowLaws.{path_from_test, below_is, not_below, get_elsewhere, get_old, get_new}
-use Rattle.kern_model.proofs.SoundLaws.{each_is}
+use Rattle.kern_model.proofs.Holds.{each_is}
 use Rattle.kern_model.proofs.WalkLaws.{walk_found, walk_missing}
 
 -- a test that would have failed was false, and the step is the other one

@@ -1,22 +1,16 @@
 -- What the laws speak of.
-use Rattle.std.specs.Prelude.{◌≡◌, ℕ, Bool, List, [], ◌∷◌, length, Option, None, Some, IsSome, IsTrue, if◌then◌else◌}
+use Rattle.std.specs.Prelude.{◌≡◌, ℕ, Bool, List, [], ◌∷◌, Option, None, Some, IsTrue, if◌then◌else◌}
 use Rattle.std.specs.FinMap.{get}
 use Rattle.sp_base.specs.declared.call.Call.TheVariants as call
 use Rattle.kern_model.specs.declared.node.Row.{Row}
 use Rattle.kern_model.specs.declared.operation.Ins.TheVariants.{Given}
 use Rattle.kern_model.specs.declared.operation.Op.TheVariants.{Sys}
 use Rattle.kern_model.specs.declared.walk.Walked.TheVariants.{Found, Missing}
-use Rattle.sp_base.specs.Table.{at}
 use Rattle.kern_model.specs.Name.{Path, Names}
 use Rattle.kern_model.specs.Outcome.{success}
-use Rattle.kern_model.specs.State.{State, rows_of, closes, is_directory}
+use Rattle.kern_model.specs.State.{State, closes, is_directory}
 use Rattle.kern_model.specs.Walk.{walk}
 use Rattle.kern_model.specs.Act.{act}
-
--- the tables have their lengths: there are 258 numbers of processes, and each process has 128 descriptors
-pub record HasTables (s : State) : Type 0 where
-  pub numbers : length s.processes ≡ 258
-  pub descriptors : (pid : ℕ) → IsSome (at s.processes pid) → length (rows_of s pid) ≡ 128
 
 -- what an exec leaves of a row
 abbrev pub kept_row : Option Row → Option Row

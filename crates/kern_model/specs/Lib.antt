@@ -13,3 +13,4 @@ pub mod Plain
 pub mod NameMap
 pub mod StateCode
 pub mod Laws
+pub mod Sound

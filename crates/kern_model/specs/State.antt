@@ -143,9 +143,13 @@ total_size s = sum_by (λ node. length (bytes_in node)) s.nodes
 abbrev pub node_count : State → ℕ
 node_count s = count_by is_some s.nodes
 
--- another node can be made: there are fewer than 65,536, and the number 2^64 - 1 wasn't given
+-- there are at most 65,536 nodes
+abbrev pub node_limit : ℕ
+node_limit = 65536
+
+-- another node can be made: there are fewer than the limit, and the number 2^64 - 1 wasn't given
 abbrev pub has_room : State → Bool
-has_room s = nat_lt (node_count s) 65536 && nat_lt (length s.nodes) (2 ^ 64)
+has_room s = nat_lt (node_count s) node_limit && nat_lt (length s.nodes) (2 ^ 64)
 
 -- a node with other bytes, where there is a node
 abbrev pub replace_bytes : Option Node → List ℕ → Option Node

@@ -17,7 +17,8 @@ ghost use Rattle.kern_model.specs.Outcome.{failure};
 ghost use Rattle.kern_model.specs.State.{State, fresh_process, rows_of, directory_of, bytes_of};
 ghost use Rattle.kern_model.specs.Act.{act};
 ghost use Rattle.kern_model.specs.Journal.{state_after};
-ghost use Rattle.kern_model.specs.Laws.{HasTables, HasParents, MovesDirectory, kept_row};
+ghost use Rattle.kern_model.specs.Laws.{HasParents, MovesDirectory, kept_row};
+ghost use Rattle.kern_model.specs.Sound.{HasTables};
 
 /// An outcome that is an error has no values and writes nothing, and the state stays.
 pub fn error_gives_nothing()
