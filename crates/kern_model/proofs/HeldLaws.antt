@@ -15,7 +15,7 @@ use Rattle.kern_model.specs.Sound.{IsThere, IsHeld}
 use Rattle.kern_model.proofs.HolderLaws.{set_cases, some_there, has_from, HasRow, held_row, row_held, row_cases, row_elsewhere, HasFile, stays_named, stays_open, stays_still}
 
 -- what is at a number that is set to nothing was there, and isn't that number
-left : {X : Type 0} (table : List (Option X)) (n q : ℕ) (y : X) → at (slice_set table n None) q ≡ Some y → (q ≢ n) × (at table q ≡ Some y)
+pub left : {X : Type 0} (table : List (Option X)) (n q : ℕ) (y : X) → at (slice_set table n None) q ≡ Some y → (q ≢ n) × (at table q ≡ Some y)
 left table n q y h = by_case (set_cases table n None q y h) where
   by_case : (None ≡ Some y) ⊎ ((q ≢ n) × (at table q ≡ Some y)) → (q ≢ n) × (at table q ≡ Some y)
   by_case (inl e) = absurd cc

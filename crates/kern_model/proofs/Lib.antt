@@ -19,6 +19,7 @@ pub mod HeldChanges
 pub mod CountLaws
 pub mod LimitChanges
 pub mod SoundLaws
+pub mod ShareLaws
 pub mod NameCalls
 pub mod CallLaws
 pub mod Errors

@@ -12,12 +12,13 @@ use Rattle.kern_model.specs.declared.operation.Ins.{Ins}
 use Rattle.kern_model.specs.declared.operation.Ins.TheVariants.{Given, Fault}
 use Rattle.kern_model.specs.declared.outcome.Outcome.{Outcome}
 use Rattle.sp_base.specs.Table.{at, lowest_unused}
-use Rattle.kern_model.specs.Outcome.{success, failure}
+use Rattle.kern_model.specs.Outcome.{failure}
 use Rattle.kern_model.specs.State.{State, Process, fresh_process, rows_in, with_process, close_rows}
 use Rattle.kern_model.specs.Step.{Step, answered, or_fail}
 use Rattle.kern_model.specs.Descriptors.{act_attach, act_fork, act_exec, act_exit}
 use Rattle.kern_model.specs.Act.{act, act_op, act_call, has_step}
 use Rattle.kern_model.specs.Sound.{HasTables}
+use Rattle.kern_model.specs.Laws.{MakesLowest}
 use Rattle.sp_base.proofs.TableLaws.{at_other, at_same, at_within, all_set, lowest_unused_is}
 use Rattle.kern_model.proofs.KeepLaws.{Keeps, keeps_same, keeps_close_rows}
 use Rattle.kern_model.proofs.Holds.{HoldsOf, holds_is, each_is}
@@ -36,20 +37,22 @@ keeps_tables pid s t k h = record { numbers = k.numbers ∙ h.numbers; descripto
 abbrev pub news : State → Option Process → Option ℕ → Step
 news s process number = or_fail number Eagain s (λ pid. answered pid (with_process s pid process))
 
--- where a new process was answered, its number was the lowest unused one, and it is there
-pub record IsNewProcess (s : State) (process : Option Process) (outcome : Outcome) (t : State) : Type 0 where
-  pub number : lowest_unused s.processes 2 ≡ Some outcome.ret0
-  pub made : at t.processes outcome.ret0 ≡ process
-
-new_is : (s : State) (process : Option Process) (n : ℕ) → lowest_unused s.processes 2 ≡ Some n → IsNewProcess s process (success n) (with_process s n process)
-new_is s process n low = record { number = low; made = at_within s.processes n process (lowest_unused_is s.processes 2 n low).0 }
+new_is : (s : State) (process : Option Process) (n : ℕ) → lowest_unused s.processes 2 ≡ Some n → MakesLowest s process n (with_process s n process)
+new_is s process n low = record {
+  lowest = low;
+  unused = (lowest_unused_is s.processes 2 n low).1;
+  made = at_within s.processes n process (lowest_unused_is s.processes 2 n low).0;
+  names = refl;
+  nodes = refl;
+  files = refl;
+}
 
 -- what is so of each step that makes a process
 pub record Makes (s : State) (process : Option Process) (outcome : Outcome) (t : State) : Type 0 where
   pub clean : FailsClean s outcome t
   pub others : (q : ℕ) → q ≢ outcome.ret0 → at t.processes q ≡ at s.processes q
   pub numbers : length t.processes ≡ length s.processes
-  pub new : outcome.err ≡ 0 → IsNewProcess s process outcome t
+  pub new : outcome.err ≡ 0 → MakesLowest s process outcome.ret0 t
   pub tables : (IsSome process → length (rows_in process) ≡ 128) → HasTables s → HasTables t
   pub full : outcome.err ≡ errno_number Eagain ↔ (lowest_unused s.processes 2 ≡ None)
 
@@ -77,14 +80,10 @@ attach_makes s outcome t e = each_is (Makes s (Some fresh_process)) (act_attach 
 pub fork_makes : (s : State) (pid : ℕ) (outcome : Outcome) (t : State) → act_fork s pid ≡ Some (outcome, t) → Makes s (at s.processes pid) outcome t
 fork_makes s pid outcome t e = each_is (Makes s (at s.processes pid)) (act_fork s pid) outcome t (makes_by s (at s.processes pid) (lowest_unused s.processes 2) refl) e
 
--- nothing was at the new number
-pub was_unused : {s t : State} {process : Option Process} {outcome : Outcome} → IsNewProcess s process outcome t → at s.processes outcome.ret0 ≡ None
-was_unused {s = s} {outcome = outcome} n = (lowest_unused_is s.processes 2 outcome.ret0 n.number).1
-
 -- a live process is the same after a new one is made
 pub live_stays : {s t : State} {process : Option Process} {outcome : Outcome} (q : ℕ) → Makes s process outcome t → outcome.err ≡ 0 → IsSome (at s.processes q) → at t.processes q ≡ at s.processes q
 live_stays {s = s} {t = t} q m e live = m.others q (λ same.
-    let none : at s.processes q ≡ None = ap (λ (n : ℕ). at s.processes n) same ∙ was_unused (m.new e) in
+    let none : at s.processes q ≡ None = ap (λ (n : ℕ). at s.processes n) same ∙ (m.new e).unused in
     let no : IsSome {T = Process} None = subst (λ (o : Option Process). IsSome o) none live in absurd cc)
 
 -- ---- exec and exit

@@ -13,7 +13,7 @@ use Rattle.kern_model.specs.declared.node.Row.{Row}
 use Rattle.sp_base.specs.Table.{at}
 use Rattle.kern_model.specs.Name.{Path, Names, name_count}
 use Rattle.kern_model.specs.State.{State, Process, root, directory_in, directory_of, rows_of, with_process, with_row, replace_rows, kind_in, is_directory_kind, replace_bytes, with_bytes, with_node, is_of_node, without_unused, is_held, let_go_of, let_go_object, let_go, close_row_by, close_row, close_rows}
-use Rattle.kern_model.specs.Laws.{HasParents}
+use Rattle.kern_model.specs.NameLaws.{HasParents}
 use Rattle.kern_model.specs.Sound.{IsPlace, IsNamedDirectory, HasTree}
 use Rattle.sp_base.proofs.TableLaws.{at_other, all_set, seen_same}
 use Rattle.kern_model.proofs.EntryLaws.{counted}

@@ -12,5 +12,6 @@ pub mod Journal
 pub mod Plain
 pub mod NameMap
 pub mod StateCode
-pub mod Laws
 pub mod Sound
+pub mod Laws
+pub mod NameLaws

@@ -1,6 +1,6 @@
 // Tables of operations and their outcomes, worked out by hand from what the calls are said to do.
 ghost use Rattle.std.specs.Prelude.{IsTrue};
-ghost use Rattle.kern_model.specs.Journal.{FitsPid};
+ghost use Rattle.kern_model.specs.Journal.{CanAsk};
 
 mod descriptors;
 mod files;
@@ -18,12 +18,12 @@ use std::alloc::Global;
 use std::process::Abort;
 use std::test::Fail;
 
-/// Whether the process fits the operation: 0 for an attach, and else a live one.
+/// Whether the process may ask for the operation: any for an attach, and else a live one.
 fn fits(kernel: &Plain, pid: Pid, op: &Op) -> bool
-    ensures { IsTrue result → FitsPid kernel.now pid.0 op.now }
+    ensures { IsTrue result → CanAsk kernel.now pid.0 op.now }
 {
     match op {
-        Op::Attach => pid.0 == 0,
+        Op::Attach => true,
         Op::Sys(_) | Op::Fork | Op::Exec | Op::Exit => kernel.is_live(pid),
     }
 }
