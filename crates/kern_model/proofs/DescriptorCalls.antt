@@ -1,8 +1,9 @@
 -- What the calls on descriptors do.
-use Rattle.std.specs.Prelude.{nat_lt}
+use Rattle.std.specs.Prelude.{nat_le}
 use Rattle.std.proofs.Common.{◌≡◌, ℕ, false, ◌==◌, Some, refl, sym, ◌∙◌}
 use Rattle.std.proofs.lemmas.Bool.{eq-eqb, true≢false}
 use Rattle.sp_base.specs.Table.{at, lowest_unused}
+use Rattle.sp_base.specs.declared.limits.TheConstants.{DESCRIPTORS}
 use Rattle.sp_base.specs.declared.errno.Errno.TheVariants.{Ebadf, Emfile, Einval}
 use Rattle.sp_base.proofs.TableLaws.{lowest_unused_is}
 use Rattle.kern_model.specs.declared.node.Row.{Row}
@@ -34,12 +35,12 @@ module _ (waits : Type 0) (pid : ℕ) (s : State) where
 
   pub does_dup2 : (fd new : ℕ) → DoesStep waits pid s (act_dup2 s pid fd new)
   does_dup2 fd new = does_open pid s fd _ (λ row e.
-      holds_if (nat_lt 127 new) _ _ (λ _. holds_failed s Ebadf (fails pid s)) (λ _.
+      holds_if (nat_le DESCRIPTORS new) _ _ (λ _. holds_failed s Ebadf (fails pid s)) (λ _.
       holds_if (fd == new) _ _ (λ _. does_answered pid s new s Stays) (λ other. takes fd new row e other)))
 
   pub does_fcntl : (fd command argument : ℕ) → DoesStep waits pid s (act_fcntl s pid fd command argument)
   does_fcntl fd command argument = does_open pid s fd _ (λ row e.
-      holds_if (command == 0) _ _ (λ _. holds_fail_if s (nat_lt 127 argument) Einval _ (fails pid s) (λ _. does_duplicate fd row argument e)) (λ _.
+      holds_if (command == 0) _ _ (λ _. holds_fail_if s (nat_le DESCRIPTORS argument) Einval _ (fails pid s) (λ _. does_duplicate fd row argument e)) (λ _.
       holds_if (command == 1) _ _ (λ _. does_answered pid s _ s Stays) (λ _.
       holds_if (command == 2) _ _ (λ _. does_answered pid s 0 _ (Marks fd row (has_bit argument 1) e)) (λ _.
       holds_if (command == 3) _ _ (λ _. holds_or_fail s (at s.files row.file) Ebadf _ (fails pid s) (λ file f. does_answered pid s _ s Stays)) (λ _.

@@ -20,6 +20,8 @@ pub mod CountLaws
 pub mod LimitChanges
 pub mod SoundLaws
 pub mod ShareLaws
+pub mod ReadLaws
+pub mod Laws
 pub mod NameCalls
 pub mod CallLaws
 pub mod Errors

@@ -3,6 +3,7 @@ use Rattle.std.specs.Prelude.{◌≡◌, ◌≢◌, ◌↔◌, ℕ, List, [], le
 use Rattle.sp_base.specs.Errno.{errno_number}
 use Rattle.sp_base.specs.Table.{at, lowest_unused}
 use Rattle.sp_base.specs.declared.call.Call.{Call}
+use Rattle.sp_base.specs.declared.limits.TheConstants.{DESCRIPTORS, FIRST_PROCESS}
 use Rattle.sp_base.specs.declared.errno.Errno.{Errno}
 use Rattle.sp_base.specs.declared.errno.Errno.TheVariants.{Eagain}
 use Rattle.kern_model.specs.declared.journal.Entry.{Entry}
@@ -66,7 +67,7 @@ ExecsKeepWhoIsLive = (s : State) (pid : ℕ) (ins : Ins) (outcome : Outcome) (t 
 
 -- a new process has the lowest unused number, and is there
 pub record MakesLowest (s : State) (process : Option Process) (number : ℕ) (t : State) : Type 0 where
-  pub lowest : lowest_unused s.processes 2 ≡ Some number
+  pub lowest : lowest_unused s.processes FIRST_PROCESS ≡ Some number
   pub unused : at s.processes number ≡ None
   pub made : at t.processes number ≡ process
   pub names : t.names ≡ s.names
@@ -91,7 +92,7 @@ ForksKeepTheParent = (s : State) (pid : ℕ) (ins : Ins) (outcome : Outcome) (t 
 -- an operation with all that it read is answered EAGAIN exactly where no number is unused
 abbrev pub IsFullError : Op → Type 0
 IsFullError op = (s : State) (pid : ℕ) (pieces : List (List ℕ)) (outcome : Outcome) (t : State)
-    → Gives s pid op (Given pieces) outcome t → outcome.err ≡ errno_number Eagain ↔ (lowest_unused s.processes 2 ≡ None)
+    → Gives s pid op (Given pieces) outcome t → outcome.err ≡ errno_number Eagain ↔ (lowest_unused s.processes FIRST_PROCESS ≡ None)
 
 -- what an exec leaves of a row
 abbrev pub kept_row : Option Row → Option Row
@@ -110,7 +111,7 @@ pub record Shares (s t : State) : Type 0 where
 -- an exec leaves of the rows exactly those whose flag is clear, each at its descriptor, and the working directory
 abbrev pub ExecsCloseMarkedRows : Type 0
 ExecsCloseMarkedRows = (s : State) (pid : ℕ) (pieces : List (List ℕ)) (outcome : Outcome) (t : State) (fd : ℕ)
-    → Gives s pid Exec (Given pieces) outcome t → length (rows_of s pid) ≡ 128 → at (rows_of t pid) fd ≡ kept_row (at (rows_of s pid) fd)
+    → Gives s pid Exec (Given pieces) outcome t → length (rows_of s pid) ≡ DESCRIPTORS → at (rows_of t pid) fd ≡ kept_row (at (rows_of s pid) fd)
 abbrev pub ExecsKeepTheDirectory : Type 0
 ExecsKeepTheDirectory = (s : State) (pid : ℕ) (pieces : List (List ℕ)) (outcome : Outcome) (t : State)
     → Gives s pid Exec (Given pieces) outcome t → directory_of t pid ≡ directory_of s pid

@@ -15,3 +15,4 @@ pub mod StateCode
 pub mod Sound
 pub mod Laws
 pub mod NameLaws
+pub mod FileLaws

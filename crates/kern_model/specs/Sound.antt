@@ -2,20 +2,21 @@
 use Rattle.std.specs.Prelude.{◌≡◌, ℕ, ◌<◌, ◌≤◌, List, [], ◌∷◌, length, Option, Some, IsSome, IsTrue}
 use Rattle.std.specs.FinMap.{get}
 use Rattle.sp_base.specs.Table.{at}
+use Rattle.sp_base.specs.declared.limits.TheConstants.{DESCRIPTORS}
 use Rattle.kern_model.specs.declared.node.Node.{Node}
 use Rattle.kern_model.specs.declared.node.Object.{Object}
 use Rattle.kern_model.specs.declared.node.Object.TheVariants as object
 use Rattle.kern_model.specs.declared.node.OpenFile.{OpenFile}
 use Rattle.kern_model.specs.declared.node.Row.{Row}
 use Rattle.kern_model.specs.Name.{Path, Names, name_count}
-use Rattle.kern_model.specs.State.{State, root, rows_of, directory_of, bytes_of, kind_in, is_directory_kind, is_held, stays, node_count, node_limit, total_size}
+use Rattle.kern_model.specs.State.{State, root, process_numbers, rows_of, directory_of, bytes_of, kind_in, is_directory_kind, is_held, stays, node_count, node_limit, total_size}
 use Rattle.kern_model.specs.Files.{file_limit, total_limit}
 use Rattle.kern_model.specs.Links.{link_limit}
 
--- the tables have their lengths: there are 258 numbers of processes, and each process has 128 descriptors
+-- the tables have their lengths: that of processes, and each process's that of its descriptors
 pub record HasTables (s : State) : Type 0 where
-  pub numbers : length s.processes ≡ 258
-  pub descriptors : (pid : ℕ) → IsSome (at s.processes pid) → length (rows_of s pid) ≡ 128
+  pub numbers : length s.processes ≡ process_numbers
+  pub descriptors : (pid : ℕ) → IsSome (at s.processes pid) → length (rows_of s pid) ≡ DESCRIPTORS
 
 -- ---- the tree
 

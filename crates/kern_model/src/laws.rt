@@ -1,6 +1,7 @@
 //! The laws of the kernel: functions that do nothing, and whose contracts are the laws.
 ghost use Rattle.kern_model.specs.declared.operation.Op.TheVariants.{Attach, Fork};
 ghost use Rattle.kern_model.specs.Laws.{ErrorsGiveNothing, FaultsLeaveTheState, OthersStay, CallsKeepWhoIsLive, ExecsKeepWhoIsLive, AttachesMake, ForksCopy, ForksKeepTheParent, IsFullError, ExecsCloseMarkedRows, ExecsKeepTheDirectory, ExecsShare, ExitsEnd, ExitsShare, OperationsKeepSound, JournalsLeaveSound};
+ghost use Rattle.kern_model.specs.FileLaws.{WrittenIsRead};
 ghost use Rattle.kern_model.specs.NameLaws.{RenamesKeepBytes, RenamesMoveBelow, RenamesEmptyTheOld, RenamesKeepTheRest};
 ghost use Rattle.kern_model.specs.Journal.{LegalJournalsReplay};
 
@@ -66,6 +67,12 @@ pub fn rename_moves_the_tree()
     ensures below_new { RenamesMoveBelow }
     ensures below_old { RenamesEmptyTheOld }
     ensures elsewhere { RenamesKeepTheRest }
+{}
+
+/// What a write wrote is what a read of the same node then gives, byte for byte, through whatever
+/// descriptor of whatever process.
+pub fn reads_give_what_was_written()
+    ensures { WrittenIsRead }
 {}
 
 /// From the opening on, the tables have their lengths, the names are a tree, what is held is there
