@@ -21,7 +21,7 @@ pub mod LimitChanges
 pub mod SoundLaws
 pub mod ShareLaws
 pub mod ReadLaws
-pub mod Laws
+pub mod Lemmas
 pub mod NameCalls
 pub mod CallLaws
 pub mod Errors
