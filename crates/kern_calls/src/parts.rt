@@ -87,6 +87,7 @@ impl Parts {
 
     /// Performs an operation: the outcome that the definition gives in this state, and the state after it.
     /// None, exactly where the definition has no step, and want of memory leave the state as it was.
+    #[tactic(auto, using(kern_model::proofs::Lemmas::fits_can_ask))]
     pub(crate) fn act(&mut self, pid: Pid, op: &Op, ins: &Ins) -> Result<Option<Outcome>, NoMemory>
         requires process { FitsPid self.old pid.0 op.now }
         ensures ok { IfOk result (λ answer. act self.old pid.0 op.now ins.now ≡ step_of answer self.new) }

@@ -1,6 +1,6 @@
 -- The tables have their lengths in every state that operations lead to.
-use Rattle.std.specs.Prelude.{IsSome}
-use Rattle.std.proofs.Common.{◌≡◌, ℕ, List, [], ◌∷◌, length, replicate, Option, Some, None, refl}
+use Rattle.std.specs.Prelude.{IsSome, slice_get}
+use Rattle.std.proofs.Common.{◌≡◌, ℕ, zero, suc, List, [], ◌∷◌, length, take, replicate, Option, Some, None, refl, sym, ap, subst, ◌∙◌, add-one}
 use Rattle.kern_model.specs.declared.journal.Entry.{Entry}
 use Rattle.kern_model.specs.declared.operation.Op.{Op}
 use Rattle.kern_model.specs.declared.operation.Op.TheVariants.{Sys, Attach, Fork, Exec, Exit}
@@ -12,10 +12,10 @@ use Rattle.kern_model.specs.Outcome.{failure}
 use Rattle.kern_model.specs.State.{State, Process, opening, rows_in}
 use Rattle.kern_model.specs.Step.{Step}
 use Rattle.kern_model.specs.Act.{act, act_op}
-use Rattle.kern_model.specs.Journal.{state_of_step, after_entry, state_from, state_after}
-use Rattle.kern_model.specs.Laws.{HasTables}
+use Rattle.kern_model.specs.Journal.{FitsPid, CanAsk, state_of_step, after_entry, state_from, state_after, state_before, Follows, FollowsAt, IsLegalFrom, IsLegal}
+use Rattle.kern_model.specs.Sound.{HasTables}
 use Rattle.sp_base.proofs.TableLaws.{at_blank}
-use Rattle.kern_model.proofs.SoundLaws.{each_is}
+use Rattle.kern_model.proofs.Holds.{each_is}
 use Rattle.kern_model.proofs.ProcessLaws.{keeps_tables, attach_makes, fork_makes, exit_ends, call_keeps, exec_keeps}
 
 op_tables : (s : State) (pid : ℕ) (op : Op) (pieces : List (List ℕ)) (outcome : Outcome) (t : State) → act_op s pid op pieces ≡ Some (outcome, t) → HasTables s → HasTables t
@@ -43,9 +43,40 @@ opening_rows : (p : Option Process) → p ≡ None → IsSome p → length (rows
 opening_rows None e live = absurd cc
 opening_rows (Some p) e live = absurd cc
 
-opening_tables : HasTables opening
+pub opening_tables : HasTables opening
 opening_tables = record { numbers = refl; descriptors = λ pid live. opening_rows (at (replicate 258 None) pid) (at_blank 258 pid) live }
 
 -- the tables have their lengths after every journal
 pub journal_tables : (journal : List Entry) → HasTables (state_after journal)
 journal_tables journal = from_tables opening journal opening_tables
+
+-- ---- places
+
+-- the entry at a place follows the ones before it
+follows_from : (s : State) (journal : List Entry) (place : ℕ) (e : Entry) → IsLegalFrom s journal → slice_get journal place ≡ Some e → Follows (state_from s (take place journal)) e
+follows_from s [] place e legal h = absurd cc
+follows_from s (first ∷ journal) zero e legal h = let is : first ≡ e = cc in subst (λ (e : Entry). Follows s e) is legal.0
+follows_from s (first ∷ journal) (suc place) e legal h = follows_from (after_entry s first) journal place e legal.1 h
+
+-- and leaves the state before the next place
+next_from : (s : State) (journal : List Entry) (place : ℕ) (e : Entry) → slice_get journal place ≡ Some e → state_from s (take (suc place) journal) ≡ after_entry (state_from s (take place journal)) e
+next_from s [] place e h = absurd cc
+next_from s (first ∷ journal) zero e h = let is : first ≡ e = cc in ap (λ (e : Entry). after_entry s e) is
+next_from s (first ∷ journal) (suc place) e h = next_from (after_entry s first) journal place e h
+
+pub replays : (journal : List Entry) (place : ℕ) (e : Entry) → IsLegal journal → slice_get journal place ≡ Some e → FollowsAt journal place e
+replays journal place e legal h =
+    let follows = follows_from opening journal place e legal h in
+    record {
+      follows = follows;
+      acts = follows.acts ∙ ap (λ (t : State). Some (e.outcome, t))
+          (sym (next_from opening journal place e h) ∙ ap (λ (n : ℕ). state_before journal n) (sym (add-one place)));
+    }
+
+-- a process that fits an entry may ask
+pub fits_can_ask : (s : State) (pid : ℕ) (op : Op) → FitsPid s pid op → CanAsk s pid op
+fits_can_ask s pid (Sys c) fits = fits
+fits_can_ask s pid Attach fits = tt
+fits_can_ask s pid Fork fits = fits
+fits_can_ask s pid Exec fits = fits
+fits_can_ask s pid Exit fits = fits

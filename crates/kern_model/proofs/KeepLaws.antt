@@ -94,10 +94,6 @@ keeps_close_by pid s fd (Some row) =
 pub keeps_close : (pid : ℕ) (s : State) (fd : ℕ) → Keeps pid s (close_row s pid fd)
 keeps_close pid s fd = keeps_close_by pid s fd (at (rows_of s pid) fd)
 
--- another open file under a descriptor that was closed first
-pub keeps_taken : (pid : ℕ) (s : State) (fd : ℕ) (row : Option Row) → Keeps pid s (with_row (close_row s pid fd) pid fd row)
-keeps_taken pid s fd row = keeps_both pid s (close_row s pid fd) _ (keeps_close pid s fd) (keeps_row pid (close_row s pid fd) fd row)
-
 -- a row of a state with the same processes
 pub keeps_row_of : (pid : ℕ) (s t : State) (fd : ℕ) (row : Option Row) → t.processes ≡ s.processes → Keeps pid s (with_row t pid fd row)
 keeps_row_of pid s t fd row e = keeps_both pid s t _ (keeps_same pid s t e) (keeps_row pid t fd row)

@@ -9,7 +9,9 @@ use Rattle.kern_model.specs.Name.{Path, parent, path_of, components, begins_with
 use Rattle.kern_model.specs.State.{State, root, is_directory, directory_of}
 use Rattle.kern_model.specs.Walk.{has_long_component, is_here, is_up, found_at, last_at, walk_last, through, unless_fault, walk_from, walk_parts, walk}
 use Rattle.kern_model.proofs.EntryLaws.{placed}
-use Rattle.kern_model.proofs.TreeLaws.{IsPlace, HasTree}
+use Rattle.kern_model.specs.Sound.{IsPlace, HasTree}
+use Rattle.kern_model.proofs.WalkLaws.{walk_missing}
+use Rattle.kern_model.proofs.Changes.{IsFree}
 
 -- a missing object would stand in a directory
 abbrev pub Leads : State → Walked → Type 0
@@ -69,7 +71,7 @@ place_root s h start e =
 place_working : (s : State) (pid : ℕ) → HasTree s → (start : Path) → path_of s.names (directory_of s pid) ≡ Some start → IsPlace s.names s.nodes start
 place_working s pid h start e =
     let stands = placed s.names (directory_of s pid) start e in
-    record { node = directory_of s pid; stands = stands; directory = (h.working pid).directory start stands }
+    record { node = directory_of s pid; stands = stands; directory = (h.working pid).directory }
 
 -- where a walk finds nothing, it was led into a directory
 pub leads : (s : State) (pid : ℕ) (text : List ℕ) → HasTree s → Leads s (walk s pid text)
@@ -77,3 +79,11 @@ leads s pid text h =
     leads_if s (length text == 0) _ _ tt
     (leads_if s (has_long_component (components text)) _ _ tt
     (leads_if s (begins_with_slash text) _ _ (leads_parts s (Some []) text h (place_root s h)) (leads_parts s (path_of s.names (directory_of s pid)) text h (place_working s pid h))))
+
+free_by : (s : State) (path : Path) (slash : Bool) → get s.names path ≡ None → Leads s (Missing path slash) → IsFree s path
+free_by s [] slash e place = absurd place
+free_by s (component ∷ path) slash e place = (e, place)
+
+-- what a walk finds missing may be made there
+pub walk_free : (s : State) (pid : ℕ) (text : List ℕ) (path : Path) (slash : Bool) → walk s pid text ≡ Missing path slash → HasTree s → IsFree s path
+walk_free s pid text path slash e h = free_by s path slash (walk_missing s pid text path slash e) (subst (λ (w : Walked). Leads s w) e (leads s pid text h))

@@ -1,22 +1,18 @@
 -- A tree stays one where a name is put into a directory, where one is taken away, and where one is moved.
-use Rattle.std.proofs.Common.{◌≡◌, ◌≢◌, ◌⊎◌, inl, inr, cond, ℕ, ◌<◌, true, false, List, [], ◌∷◌, ◌++◌, length, append-nil, Some, None, refl, sym, ap, subst, ◌∙◌}
+use Rattle.std.proofs.Common.{◌≡◌, ◌≢◌, ◌⊎◌, inl, inr, ℕ, ◌<◌, List, [], ◌∷◌, ◌++◌, length, append-nil, Option, Some, None, refl, sym, ap, subst, ◌∙◌}
 use Rattle.std.proofs.lemmas.List.{append_cancel_right}
-use Rattle.std.specs.FinMap.{get, insert, remove, get-insert, get-remove}
-use Rattle.kern_model.specs.Name.{Path, Names, is_same_path, below, renamed}
+use Rattle.std.specs.FinMap.{get, insert, remove}
+use Rattle.kern_model.specs.Name.{Path, Names, below, renamed}
 use Rattle.kern_model.specs.State.{State, root, directory_of}
 use Rattle.kern_model.specs.Links.{moved}
-use Rattle.kern_model.proofs.NamesLaws.{paths_total}
-use Rattle.kern_model.proofs.BelowLaws.{path_from_test, other_test, below_is, not_below, get_elsewhere, get_old, get_new}
-use Rattle.kern_model.proofs.TreeLaws.{IsDirectory, IsPlace, HasTree}
+use Rattle.kern_model.proofs.NameLaws.{HasName, apart_from, insert_cases, insert_other, remove_was, remove_other}
+use Rattle.kern_model.proofs.BelowLaws.{below_is, not_below, get_elsewhere, get_old, get_new}
+use Rattle.kern_model.specs.Sound.{IsDirectory, IsPlace, IsNamedDirectory, HasTree}
 
--- where nothing is, is not where something is
-pub apart_from : (names : Names) (free path : Path) (node : ℕ) → get names free ≡ None → get names path ≡ Some node → path ≢ free
-apart_from names free path node none some same = let k : None ≡ Some node = sym none ∙ ap (λ (p : Path). get names p) (sym same) ∙ some in cc
-
--- ---- a name more: of a node that was made, that no name leads to if it is a directory, and that is one if some process works in it
+-- ---- a name more: of a node that was made, and that no name leads to if it is a directory
 
 module _ (s : State) (component : List ℕ) (directory : Path) (node : ℕ) (free : get s.names (component ∷ directory) ≡ None) (place : IsPlace s.names s.nodes directory) (lt : node < length s.nodes)
-    (unnamed : (other : Path) → get s.names other ≡ Some node → IsDirectory s.nodes node → ⊥) (works : (pid : ℕ) → directory_of s pid ≡ node → IsDirectory s.nodes node) (h : HasTree s) where
+    (unnamed : (other : Path) → get s.names other ≡ Some node → IsDirectory s.nodes node → ⊥) (h : HasTree s) where
   abbrev more : Names
   more = insert s.names (component ∷ directory) node
 
@@ -25,17 +21,10 @@ module _ (s : State) (component : List ℕ) (directory : Path) (node : ℕ) (fre
   Came path n = ((path ≡ component ∷ directory) × (node ≡ n)) ⊎ (get s.names path ≡ Some n)
 
   came_in : (path : Path) (n : ℕ) → get more path ≡ Some n → Came path n
-  came_in path n e =
-      elim (is_same_path path (component ∷ directory)) as (λ b. is_same_path path (component ∷ directory) ≡ b → cond b (Some node) (get s.names path) ≡ Some n → Came path n) [
-        | true ↦ λ t k. inl (path_from_test path (component ∷ directory) t, cc)
-        | false ↦ λ t k. inr k
-      ] refl (sym (get-insert paths_total s.names (component ∷ directory) node path) ∙ e)
+  came_in path n e = insert_cases s.names (component ∷ directory) node path n e
 
   stays_in : (path : Path) (n : ℕ) → get s.names path ≡ Some n → get more path ≡ Some n
-  stays_in path n e =
-      get-insert paths_total s.names (component ∷ directory) node path
-      ∙ ap (λ b. cond b (Some node) (get s.names path)) (other_test path (component ∷ directory) (apart_from s.names (component ∷ directory) path n free e))
-      ∙ e
+  stays_in path n e = insert_other s.names (component ∷ directory) node path (apart_from s.names (component ∷ directory) path n free e) ∙ e
 
   place_in : (path : Path) → IsPlace s.names s.nodes path → IsPlace more s.nodes path
   place_in path p = record { node = p.node; stands = stays_in path p.node p.stands; directory = p.directory }
@@ -55,9 +44,8 @@ module _ (s : State) (component : List ℕ) (directory : Path) (node : ℕ) (fre
   made_in path n (inl a) = subst (λ (m : ℕ). m < length s.nodes) a.1 lt
   made_in path n (inr e) = h.tree.made path n e
 
-  works_in : (pid : ℕ) (path : Path) → Came path (directory_of s pid) → IsDirectory s.nodes (directory_of s pid)
-  works_in pid path (inl a) = subst (λ (m : ℕ). IsDirectory s.nodes m) a.1 (works pid (sym a.1))
-  works_in pid path (inr e) = (h.working pid).directory path e
+  works_in : (node : ℕ) → IsNamedDirectory s.names s.nodes node → IsNamedDirectory more s.nodes node
+  works_in n works = record { path = works.path; stands = stays_in works.path n works.stands; directory = works.directory }
 
   pub tree_insert : HasTree (record s { names = insert s.names (component ∷ directory) node })
   tree_insert = record {
@@ -68,27 +56,21 @@ module _ (s : State) (component : List ℕ) (directory : Path) (node : ℕ) (fre
       once = λ path other n e f d. once_in path other n (came_in path n e) (came_in other n f) d;
       made = λ path n e. made_in path n (came_in path n e);
     };
-    working = λ pid. record { made = (h.working pid).made; directory = λ path e. works_in pid path (came_in path (directory_of s pid) e) };
+    working = λ pid. works_in (directory_of s pid) (h.working pid);
   }
 
--- ---- a name fewer: one below which nothing stands, and not the root's
+-- ---- a name fewer: one below which nothing stands, and not the root's, nor that of a directory in which a process works
 
-module _ (s : State) (component : List ℕ) (directory : Path) (empty : (c : List ℕ) → get s.names (c ∷ component ∷ directory) ≡ None) (h : HasTree s) where
+module _ (s : State) (component : List ℕ) (directory : Path) (empty : (c : List ℕ) → get s.names (c ∷ component ∷ directory) ≡ None) (h : HasTree s)
+    (idle : (pid : ℕ) → (h.working pid).path ≢ component ∷ directory) where
   abbrev pub fewer : Names
   fewer = remove s.names (component ∷ directory)
 
   was : (path : Path) (n : ℕ) → get fewer path ≡ Some n → get s.names path ≡ Some n
-  was path n e =
-      elim (is_same_path path (component ∷ directory)) as (λ b. cond b None (get s.names path) ≡ Some n → get s.names path ≡ Some n) [
-        | true ↦ λ k. absurd cc
-        | false ↦ λ k. k
-      ] (sym (get-remove paths_total s.names (component ∷ directory) path) ∙ e)
+  was path n e = remove_was s.names (component ∷ directory) path n e
 
   pub is_still : (path : Path) (n : ℕ) → path ≢ component ∷ directory → get s.names path ≡ Some n → get fewer path ≡ Some n
-  is_still path n ne e =
-      get-remove paths_total s.names (component ∷ directory) path
-      ∙ ap (λ b. cond b None (get s.names path)) (other_test path (component ∷ directory) ne)
-      ∙ e
+  is_still path n ne e = remove_other s.names (component ∷ directory) path ne ∙ e
 
   pub place_still : (path : Path) → path ≢ component ∷ directory → IsPlace s.names s.nodes path → IsPlace fewer s.nodes path
   place_still path ne p = record { node = p.node; stands = is_still path p.node ne p.stands; directory = p.directory }
@@ -106,7 +88,11 @@ module _ (s : State) (component : List ℕ) (directory : Path) (empty : (c : Lis
       once = λ path other n e f d. h.tree.once path other n (was path n e) (was other n f) d;
       made = λ path n e. h.tree.made path n (was path n e);
     };
-    working = λ pid. record { made = (h.working pid).made; directory = λ path e. (h.working pid).directory path (was path (directory_of s pid) e) };
+    working = λ pid. (let works = h.working pid in record {
+      path = works.path;
+      stands = is_still works.path (directory_of s pid) (idle pid) works.stands;
+      directory = works.directory;
+    });
   }
 
 -- ---- a name that is moved into a directory, to where nothing stands; neither name is below the other
@@ -121,6 +107,12 @@ record IsMoved (names : Names) (old new path : Path) (node : ℕ) : Type 0 where
 record IsElsewhere (names : Names) (old path : Path) (node : ℕ) : Type 0 where
   apart : (r : Path) → path ≢ r ++ old
   stood : get names path ≡ Some node
+
+-- a rename leaves a tree, in which exactly the nodes have names that had one
+pub record KeepsNames (s : State) (old new : Path) : Type 0 where
+  pub tree : HasTree (moved s old new)
+  pub came : (path : Path) (node : ℕ) → get (renamed s.names old new) path ≡ Some node → HasName s.names node
+  pub goes : (node : ℕ) → HasName s.names node → HasName (renamed s.names old new) node
 
 module _ (s : State) (old : Path) (component : List ℕ) (directory : Path) (new_apart : (r : Path) → component ∷ directory ≢ r ++ old) (old_apart : (r : Path) → old ≢ r ++ (component ∷ directory))
     (free : (r : Path) → get s.names (r ++ (component ∷ directory)) ≡ None) (place : IsPlace s.names s.nodes directory) (h : HasTree s) where
@@ -184,15 +176,29 @@ module _ (s : State) (old : Path) (component : List ℕ) (directory : Path) (new
   made_at path n (inl m) = h.tree.made (m.rest ++ old) n m.stood
   made_at path n (inr m) = h.tree.made path n m.stood
 
-  works_at : (pid : ℕ) (path : Path) → CameFrom path (directory_of s pid) → IsDirectory s.nodes (directory_of s pid)
-  works_at pid path (inl m) = (h.working pid).directory (m.rest ++ old) m.stood
-  works_at pid path (inr m) = (h.working pid).directory path m.stood
+  -- where a node's name is then
+  name_by : (node : ℕ) → (name : HasName s.names node) (o : Option Path) → below name.path old ≡ o → HasName after node
+  name_by n name None e = record { path = name.path; stands = stays_at name.path n (λ r. not_below old r name.path e) name.stands }
+  name_by n name (Some r) e = record {
+    path = r ++ new;
+    stands = get_new old new new_apart old_apart s.names free r ∙ ap (λ (p : Path). get s.names p) (sym (below_is old name.path r e)) ∙ name.stands;
+  }
+
+  goes_by : (node : ℕ) → HasName s.names node → HasName after node
+  goes_by n name = name_by n name (below name.path old) refl
+
+  works_by : (node : ℕ) → IsNamedDirectory s.names s.nodes node → IsNamedDirectory after s.nodes node
+  works_by n works = (let name = goes_by n (record { path = works.path; stands = works.stands }) in record { path = name.path; stands = name.stands; directory = works.directory })
+
+  came_by : (path : Path) (n : ℕ) → CameFrom path n → HasName s.names n
+  came_by path n (inl m) = record { path = m.rest ++ old; stands = m.stood }
+  came_by path n (inr m) = record { path = path; stands = m.stood }
 
   root_apart : (r : Path) → [] ≢ r ++ old
   root_apart [] e = new_apart new (sym (append-nil new) ∙ ap (λ (p : Path). new ++ p) e)
   root_apart (c ∷ r) e = absurd cc
 
-  pub tree_moved : HasTree (moved s old (component ∷ directory))
+  tree_moved : HasTree (moved s old (component ∷ directory))
   tree_moved = record {
     tree = record {
       top = stays_at [] root root_apart h.tree.top;
@@ -201,5 +207,8 @@ module _ (s : State) (old : Path) (component : List ℕ) (directory : Path) (new
       once = λ path other n e f d. once_at path other n (came_from path n e) (came_from other n f) d;
       made = λ path n e. made_at path n (came_from path n e);
     };
-    working = λ pid. record { made = (h.working pid).made; directory = λ path e. works_at pid path (came_from path (directory_of s pid) e) };
+    working = λ pid. works_by (directory_of s pid) (h.working pid);
   }
+
+  pub names_moved : KeepsNames s old (component ∷ directory)
+  names_moved = record { tree = tree_moved; came = λ path n e. came_by path n (came_from path n e); goes = goes_by }

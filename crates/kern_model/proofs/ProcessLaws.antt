@@ -1,5 +1,6 @@
 -- What the operations on processes do.
-use Rattle.std.specs.Prelude.{IsSome, ◌↔◌}
+use Rattle.std.specs.Prelude.{IsSome, IsTrue, ◌↔◌}
+use Rattle.std.proofs.lemmas.Bool.{true≢false}
 use Rattle.std.proofs.Common.{◌≡◌, ◌≢◌, ℕ, List, [], length, Option, Some, None, true, false, refl, sym, ap, subst, ◌∙◌}
 use Rattle.std.proofs.lemmas.List.{length-set}
 use Rattle.sp_base.specs.declared.call.Call.{Call}
@@ -11,16 +12,19 @@ use Rattle.kern_model.specs.declared.operation.Ins.{Ins}
 use Rattle.kern_model.specs.declared.operation.Ins.TheVariants.{Given, Fault}
 use Rattle.kern_model.specs.declared.outcome.Outcome.{Outcome}
 use Rattle.sp_base.specs.Table.{at, lowest_unused}
-use Rattle.kern_model.specs.Outcome.{success}
+use Rattle.kern_model.specs.Outcome.{failure}
 use Rattle.kern_model.specs.State.{State, Process, fresh_process, rows_in, with_process, close_rows}
 use Rattle.kern_model.specs.Step.{Step, answered, or_fail}
 use Rattle.kern_model.specs.Descriptors.{act_attach, act_fork, act_exec, act_exit}
-use Rattle.kern_model.specs.Act.{act, act_op, act_call}
-use Rattle.kern_model.specs.Laws.{HasTables}
+use Rattle.kern_model.specs.Act.{act, act_op, act_call, has_step}
+use Rattle.kern_model.specs.Sound.{HasTables}
+use Rattle.kern_model.specs.Laws.{MakesLowest}
 use Rattle.sp_base.proofs.TableLaws.{at_other, at_same, at_within, all_set, lowest_unused_is}
-use Rattle.kern_model.proofs.KeepLaws.{Keeps, keeps_close_rows}
-use Rattle.kern_model.proofs.SoundLaws.{FailsClean, Each, each_is, Sound, clean_failure, clean_success, sound_failed, sound_answered}
-use Rattle.kern_model.proofs.CallLaws.{sound_call}
+use Rattle.kern_model.proofs.KeepLaws.{Keeps, keeps_same, keeps_close_rows}
+use Rattle.kern_model.proofs.Holds.{HoldsOf, holds_is, each_is}
+use Rattle.kern_model.proofs.KeepChanges.{keeps_changed}
+use Rattle.kern_model.proofs.Does.{FailsClean, Does, fails, clean_failure, clean_success}
+use Rattle.kern_model.proofs.CallLaws.{does_call}
 use Rattle.kern_model.proofs.Errors.{no_error_is_zero}
 
 -- what keeps the processes keeps the lengths of the tables
@@ -33,24 +37,26 @@ keeps_tables pid s t k h = record { numbers = k.numbers ∙ h.numbers; descripto
 abbrev pub news : State → Option Process → Option ℕ → Step
 news s process number = or_fail number Eagain s (λ pid. answered pid (with_process s pid process))
 
--- where a new process was answered, its number was the lowest unused one, and it is there
-pub record IsNewProcess (s : State) (process : Option Process) (outcome : Outcome) (t : State) : Type 0 where
-  pub number : lowest_unused s.processes 2 ≡ Some outcome.ret0
-  pub made : at t.processes outcome.ret0 ≡ process
-
-new_is : (s : State) (process : Option Process) (n : ℕ) → lowest_unused s.processes 2 ≡ Some n → IsNewProcess s process (success n) (with_process s n process)
-new_is s process n low = record { number = low; made = at_within s.processes n process (lowest_unused_is s.processes 2 n low).0 }
+new_is : (s : State) (process : Option Process) (n : ℕ) → lowest_unused s.processes 2 ≡ Some n → MakesLowest s process n (with_process s n process)
+new_is s process n low = record {
+  lowest = low;
+  unused = (lowest_unused_is s.processes 2 n low).1;
+  made = at_within s.processes n process (lowest_unused_is s.processes 2 n low).0;
+  names = refl;
+  nodes = refl;
+  files = refl;
+}
 
 -- what is so of each step that makes a process
 pub record Makes (s : State) (process : Option Process) (outcome : Outcome) (t : State) : Type 0 where
   pub clean : FailsClean s outcome t
   pub others : (q : ℕ) → q ≢ outcome.ret0 → at t.processes q ≡ at s.processes q
   pub numbers : length t.processes ≡ length s.processes
-  pub new : outcome.err ≡ 0 → IsNewProcess s process outcome t
+  pub new : outcome.err ≡ 0 → MakesLowest s process outcome.ret0 t
   pub tables : (IsSome process → length (rows_in process) ≡ 128) → HasTables s → HasTables t
   pub full : outcome.err ≡ errno_number Eagain ↔ (lowest_unused s.processes 2 ≡ None)
 
-makes_by : (s : State) (process : Option Process) (number : Option ℕ) → lowest_unused s.processes 2 ≡ number → Each (Makes s process) (news s process number)
+makes_by : (s : State) (process : Option Process) (number : Option ℕ) → lowest_unused s.processes 2 ≡ number → HoldsOf Unit (Makes s process) (news s process number)
 makes_by s process None low = record {
   clean = clean_failure s Eagain;
   others = λ q ne. refl;
@@ -74,20 +80,13 @@ attach_makes s outcome t e = each_is (Makes s (Some fresh_process)) (act_attach 
 pub fork_makes : (s : State) (pid : ℕ) (outcome : Outcome) (t : State) → act_fork s pid ≡ Some (outcome, t) → Makes s (at s.processes pid) outcome t
 fork_makes s pid outcome t e = each_is (Makes s (at s.processes pid)) (act_fork s pid) outcome t (makes_by s (at s.processes pid) (lowest_unused s.processes 2) refl) e
 
--- nothing was at the new number
-pub was_unused : {s t : State} {process : Option Process} {outcome : Outcome} → IsNewProcess s process outcome t → at s.processes outcome.ret0 ≡ None
-was_unused {s = s} {outcome = outcome} n = (lowest_unused_is s.processes 2 outcome.ret0 n.number).1
-
 -- a live process is the same after a new one is made
 pub live_stays : {s t : State} {process : Option Process} {outcome : Outcome} (q : ℕ) → Makes s process outcome t → outcome.err ≡ 0 → IsSome (at s.processes q) → at t.processes q ≡ at s.processes q
 live_stays {s = s} {t = t} q m e live = m.others q (λ same.
-    let none : at s.processes q ≡ None = ap (λ (n : ℕ). at s.processes n) same ∙ was_unused (m.new e) in
+    let none : at s.processes q ≡ None = ap (λ (n : ℕ). at s.processes n) same ∙ (m.new e).unused in
     let no : IsSome {T = Process} None = subst (λ (o : Option Process). IsSome o) none live in absurd cc)
 
 -- ---- exec and exit
-
-pub sound_exec : (s : State) (pid : ℕ) → Sound pid s (act_exec s pid)
-sound_exec s pid = sound_answered pid s 0 _ (keeps_close_rows true pid s 128)
 
 -- what is so of each exit
 pub record Ends (pid : ℕ) (s : State) (outcome : Outcome) (t : State) : Type 0 where
@@ -97,7 +96,7 @@ pub record Ends (pid : ℕ) (s : State) (outcome : Outcome) (t : State) : Type 0
   pub gone : at t.processes pid ≡ None
   pub numbers : length t.processes ≡ length s.processes
 
-exit_each : (s : State) (pid : ℕ) → Each (Ends pid s) (act_exit s pid)
+exit_each : (s : State) (pid : ℕ) → HoldsOf Unit (Ends pid s) (act_exit s pid)
 exit_each s pid =
     let closed = close_rows false s pid 128 in
     let keeps = keeps_close_rows false pid s 128 in record {
@@ -116,13 +115,21 @@ exit_ends s pid outcome t e = each_is (Ends pid s) (act_exit s pid) outcome t (e
 
 -- ---- every operation
 
+-- what a call does, whatever it was given
+pub call_does : (s : State) (pid : ℕ) (c : Call) (ins : Ins) (outcome : Outcome) (t : State) → act s pid (Sys c) ins ≡ Some (outcome, t) → Does pid s outcome t
+call_does s pid c (Given pieces) outcome t e = holds_is outcome t (does_call Unit s pid c pieces (λ _. tt)) e
+call_does s pid c (Fault error) outcome t e = each_is (Does pid s) (Some (failure error, s)) outcome t (fails pid s error) e
+
 pub call_keeps : (s : State) (pid : ℕ) (c : Call) (ins : Ins) (outcome : Outcome) (t : State) → act s pid (Sys c) ins ≡ Some (outcome, t) → FailsClean s outcome t × Keeps pid s t
-call_keeps s pid c (Given pieces) outcome t e = each_is (λ o t. FailsClean s o t × Keeps pid s t) (act_call s pid c pieces) outcome t (sound_call s pid c pieces).is e
-call_keeps s pid c (Fault error) outcome t e = each_is (λ o t. FailsClean s o t × Keeps pid s t) _ outcome t (sound_failed pid s error).is e
+call_keeps s pid c ins outcome t e = let does = call_does s pid c ins outcome t e in (does.clean, keeps_changed does.change)
 
 pub exec_keeps : (s : State) (pid : ℕ) (ins : Ins) (outcome : Outcome) (t : State) → act s pid Exec ins ≡ Some (outcome, t) → FailsClean s outcome t × Keeps pid s t
-exec_keeps s pid (Given pieces) outcome t e = each_is (λ o t. FailsClean s o t × Keeps pid s t) (act_exec s pid) outcome t (sound_exec s pid).is e
-exec_keeps s pid (Fault error) outcome t e = each_is (λ o t. FailsClean s o t × Keeps pid s t) _ outcome t (sound_failed pid s error).is e
+exec_keeps s pid (Given pieces) outcome t e = each_is (λ o t. FailsClean s o t × Keeps pid s t) (act_exec s pid) outcome t (clean_success s 0 [] _, keeps_close_rows true pid s 128) e
+exec_keeps s pid (Fault error) outcome t e = each_is (λ o t. FailsClean s o t × Keeps pid s t) (Some (failure error, s)) outcome t (clean_failure s error, keeps_same pid s s refl) e
+
+-- a call that has a step never waits
+pub call_acts : (s : State) (pid : ℕ) (c : Call) (pieces : List (List ℕ)) → IsTrue (has_step c) → act_call s pid c pieces ≢ None
+call_acts s pid c pieces has = λ e. subst (λ (step : Step). HoldsOf ⊥ (Does pid s) step) e (does_call ⊥ s pid c pieces (λ none. true≢false (sym has ∙ none))).is
 
 clean_op : (s : State) (pid : ℕ) (op : Op) (pieces : List (List ℕ)) (outcome : Outcome) (t : State) → act_op s pid op pieces ≡ Some (outcome, t) → FailsClean s outcome t
 clean_op s pid (Sys c) pieces outcome t e = (call_keeps s pid c (Given pieces) outcome t e).0
@@ -134,4 +141,4 @@ clean_op s pid Exit pieces outcome t e = (exit_ends s pid outcome t e).clean
 -- an error has no values and no pieces, and leaves the state
 pub clean : (s : State) (pid : ℕ) (op : Op) (ins : Ins) (outcome : Outcome) (t : State) → act s pid op ins ≡ Some (outcome, t) → FailsClean s outcome t
 clean s pid op (Given pieces) outcome t e = clean_op s pid op pieces outcome t e
-clean s pid op (Fault error) outcome t e = each_is (FailsClean s) _ outcome t (clean_failure s error) e
+clean s pid op (Fault error) outcome t e = each_is (FailsClean s) (Some (failure error, s)) outcome t (clean_failure s error) e

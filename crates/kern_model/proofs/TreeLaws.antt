@@ -1,6 +1,6 @@
 -- The names are a tree, and what becomes of it where the names stay.
-use Rattle.std.specs.Prelude.{slice_set, IsTrue, nat_lt, if◌then◌else◌}
-use Rattle.std.proofs.Common.{◌≡◌, ℕ, zero, suc, ◌<◌, ◌≤◌, Bool, true, false, ◌||◌, List, [], ◌∷◌, ◌++◌, length, Option, Some, None, refl, sym, ap, ◌∙◌, arith, length-append}
+use Rattle.std.specs.Prelude.{slice_set, nat_lt, if◌then◌else◌}
+use Rattle.std.proofs.Common.{◌≡◌, ℕ, zero, suc, ◌≤◌, Bool, true, false, ◌||◌, List, [], ◌∷◌, ◌++◌, length, Option, Some, None, refl, sym, ap, ◌∙◌, arith, length-append}
 use Rattle.std.proofs.lemmas.List.{length-set, get_or_append_left}
 use Rattle.std.proofs.lemmas.Bool.{true≢false}
 use Rattle.std.specs.List.{list_any}
@@ -13,37 +13,10 @@ use Rattle.kern_model.specs.declared.node.Row.{Row}
 use Rattle.sp_base.specs.Table.{at}
 use Rattle.kern_model.specs.Name.{Path, Names, name_count}
 use Rattle.kern_model.specs.State.{State, Process, root, directory_in, directory_of, rows_of, with_process, with_row, replace_rows, kind_in, is_directory_kind, replace_bytes, with_bytes, with_node, is_of_node, without_unused, is_held, let_go_of, let_go_object, let_go, close_row_by, close_row, close_rows}
-use Rattle.kern_model.specs.Laws.{HasParents}
+use Rattle.kern_model.specs.NameLaws.{HasParents}
+use Rattle.kern_model.specs.Sound.{IsPlace, IsNamedDirectory, HasTree}
 use Rattle.sp_base.proofs.TableLaws.{at_other, all_set, seen_same}
 use Rattle.kern_model.proofs.EntryLaws.{counted}
-
--- a node of a table is a directory
-abbrev pub IsDirectory : List (Option Node) → ℕ → Type 0
-IsDirectory nodes node = IsTrue (is_directory_kind (kind_in (at nodes node)))
-
--- a directory stands under a path
-pub record IsPlace (names : Names) (nodes : List (Option Node)) (path : Path) : Type 0 where
-  pub node : ℕ
-  pub stands : get names path ≡ Some node
-  pub directory : IsDirectory nodes node
-
--- a node may be a working directory: it was made, and under a name it is a directory
-pub record MayWork (names : Names) (nodes : List (Option Node)) (node : ℕ) : Type 0 where
-  pub made : node < length nodes
-  pub directory : (path : Path) → get names path ≡ Some node → IsDirectory nodes node
-
--- the root is a directory, each other name stands in one, a directory has one name, and each node that has a name was made
-pub record IsTree (names : Names) (nodes : List (Option Node)) : Type 0 where
-  pub top : get names [] ≡ Some root
-  pub root_directory : IsDirectory nodes root
-  pub parents : (component : List ℕ) (path : Path) (node : ℕ) → get names (component ∷ path) ≡ Some node → IsPlace names nodes path
-  pub once : (path other : Path) (node : ℕ) → get names path ≡ Some node → get names other ≡ Some node → IsDirectory nodes node → path ≡ other
-  pub made : (path : Path) (node : ℕ) → get names path ≡ Some node → node < length nodes
-
--- a state's names are a tree, in which each process may work where it does
-pub record HasTree (s : State) : Type 0 where
-  pub tree : IsTree s.names s.nodes
-  pub working : (pid : ℕ) → MayWork s.names s.nodes (directory_of s pid)
 
 -- what stands in a missing directory is missing
 pub tree_parents : (s : State) → HasTree s → HasParents s.names
@@ -53,25 +26,25 @@ tree_parents s h component path missing =
       | Some node ↦ λ t. (let place = h.tree.parents component path node t in let k : None ≡ Some place.node = sym missing ∙ place.stands in absurd cc)
     ] refl
 
--- the root may be a working directory
-pub may_root : (s : State) → HasTree s → MayWork s.names s.nodes root
-may_root s h = record { made = h.tree.made [] root h.tree.top; directory = λ path e. h.tree.root_directory }
+-- the root is a directory with a name
+pub named_root : (s : State) → HasTree s → IsNamedDirectory s.names s.nodes root
+named_root s h = record { path = []; stands = h.tree.top; directory = h.tree.root_directory }
 
 -- ---- processes
 
--- a process, or none, in a working directory that may be one
-pub tree_process : (s : State) (pid : ℕ) (process : Option Process) → MayWork s.names s.nodes (directory_in process) → HasTree s → HasTree (with_process s pid process)
+-- a process, or none, in a directory that has a name
+pub tree_process : (s : State) (pid : ℕ) (process : Option Process) → IsNamedDirectory s.names s.nodes (directory_in process) → HasTree s → HasTree (with_process s pid process)
 tree_process s pid process may h = record {
   tree = h.tree;
-  working = all_set (λ (p : Option Process). MayWork s.names s.nodes (directory_in p)) s.processes pid process may h.working;
+  working = all_set (λ (p : Option Process). IsNamedDirectory s.names s.nodes (directory_in p)) s.processes pid process may h.working;
 }
 
-may_rows : (names : Names) (nodes : List (Option Node)) (p : Option Process) (rows : List (Option Row)) → MayWork names nodes (directory_in p) → MayWork names nodes (directory_in (replace_rows p rows))
-may_rows names nodes None rows h = h
-may_rows names nodes (Some p) rows h = h
+named_rows : (names : Names) (nodes : List (Option Node)) (p : Option Process) (rows : List (Option Row)) → IsNamedDirectory names nodes (directory_in p) → IsNamedDirectory names nodes (directory_in (replace_rows p rows))
+named_rows names nodes None rows h = h
+named_rows names nodes (Some p) rows h = h
 
 pub tree_row : (s : State) (pid fd : ℕ) (row : Option Row) → HasTree s → HasTree (with_row s pid fd row)
-tree_row s pid fd row h = tree_process s pid _ (may_rows s.names s.nodes (at s.processes pid) (slice_set (rows_of s pid) fd row) (h.working pid)) h
+tree_row s pid fd row h = tree_process s pid _ (named_rows s.names s.nodes (at s.processes pid) (slice_set (rows_of s pid) fd row) (h.working pid)) h
 
 -- ---- nodes
 
@@ -88,9 +61,10 @@ tree_nodes s nodes le kept h = record {
     once = λ path other node e f directory. h.tree.once path other node e f (sym (kept path node e) ∙ directory);
     made = λ path node e. (let lt = h.tree.made path node e in omega (arith, lt, le));
   };
-  working = λ pid. (let may = h.working pid in record {
-    made = (let lt = may.made in omega (arith, lt, le));
-    directory = λ path e. kept path (directory_of s pid) e ∙ may.directory path e;
+  working = λ pid. (let works = h.working pid in record {
+    path = works.path;
+    stands = works.stands;
+    directory = kept works.path (directory_of s pid) works.stands ∙ works.directory;
   });
 }
 
@@ -118,7 +92,7 @@ pub place_node : (s : State) (node : Node) (path : Path) → HasTree s → IsPla
 place_node s node path h place = record { node = place.node; stands = place.stands; directory = kind_before s node h path place.node place.stands ∙ place.directory }
 
 -- what holds of a state, and of it without a node that has no name, holds of it without a node that is unused
-unused_by : (P : State → Type 0) (s : State) (node : ℕ) → P s → (nat_lt 0 (name_count s.names node) ≡ false → P (record s { nodes = slice_set s.nodes node None })) → P (without_unused s node)
+pub unused_by : (P : State → Type 0) (s : State) (node : ℕ) → P s → (nat_lt 0 (name_count s.names node) ≡ false → P (record s { nodes = slice_set s.nodes node None })) → P (without_unused s node)
 unused_by P s node same gone =
     elim (nat_lt 0 (name_count s.names node)) as (λ b. nat_lt 0 (name_count s.names node) ≡ b → P (if b || list_any (is_of_node node) s.files then s else record s { nodes = slice_set s.nodes node None })) [
       | true ↦ λ t. same

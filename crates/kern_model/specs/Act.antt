@@ -1,8 +1,9 @@
 -- What each operation does.
-use Rattle.std.specs.Prelude.{ℕ, Bool, true, false, List, [], ◌∷◌, None}
+use Rattle.std.specs.Prelude.{ℕ, nat_lt, Bool, true, false, List, [], ◌∷◌, None}
 use Rattle.sp_base.specs.declared.call.Call.{Call}
 use Rattle.sp_base.specs.declared.call.Call.TheVariants as call
 use Rattle.sp_base.specs.declared.errno.Errno.TheVariants.{Enosys}
+use Rattle.sp_base.specs.Call.{call_number}
 use Rattle.kern_model.specs.declared.operation.Op.{Op}
 use Rattle.kern_model.specs.declared.operation.Op.TheVariants.{Sys, Attach, Fork, Exec, Exit}
 use Rattle.kern_model.specs.declared.operation.Ins.{Ins}
@@ -60,6 +61,11 @@ act_op s pid Exit pieces = act_exit s pid
 abbrev pub act : State → ℕ → Op → Ins → Step
 act s pid op (Fault error) = failed error s
 act s pid op (Given pieces) = act_op s pid op pieces
+
+-- a call has a step by now: one of number 1 to 20, or outside the table
+abbrev pub has_step : Call → Bool
+has_step (call.Unknown num words) = true
+has_step call = nat_lt (call_number call) 21
 
 -- the calls that the server takes by now
 abbrev pub is_built : Call → Bool

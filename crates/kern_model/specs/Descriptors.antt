@@ -1,5 +1,6 @@
 -- What the calls on descriptors and the operations on processes do: the first case that applies, in the order written.
-use Rattle.std.specs.Prelude.{ℕ, ◌+◌, ◌*◌, ◌==◌, nat_lt, Bool, true, false, not, None, Some, bit_and, if◌then◌else◌}
+use Rattle.std.specs.Prelude.{ℕ, ◌+◌, ◌*◌, ◌==◌, nat_le, Bool, true, false, not, None, Some, bit_and, if◌then◌else◌}
+use Rattle.sp_base.specs.declared.limits.TheConstants.{DESCRIPTORS, FIRST_PROCESS}
 use Rattle.sp_base.specs.declared.errno.Errno.TheVariants.{Ebadf, Eagain, Emfile, Einval}
 use Rattle.kern_model.specs.declared.node.Access.{Access}
 use Rattle.kern_model.specs.declared.node.Access.TheVariants.{Reading, Writing, Both}
@@ -11,19 +12,19 @@ use Rattle.kern_model.specs.Step.{Step, failed, answered, or_fail, fail_if}
 
 -- attach: EAGAIN where no number is unused; else a process with no descriptors in the root directory, under the lowest unused number
 abbrev pub act_attach : State → Step
-act_attach s = or_fail (lowest_unused s.processes 2) Eagain s (λ pid. answered pid (with_process s pid (Some fresh_process)))
+act_attach s = or_fail (lowest_unused s.processes FIRST_PROCESS) Eagain s (λ pid. answered pid (with_process s pid (Some fresh_process)))
 
 -- fork: EAGAIN where no number is unused; else the child has the parent's rows, flags, open files and working directory
 abbrev pub act_fork : State → ℕ → Step
-act_fork s pid = or_fail (lowest_unused s.processes 2) Eagain s (λ child. answered child (with_process s child (at s.processes pid)))
+act_fork s pid = or_fail (lowest_unused s.processes FIRST_PROCESS) Eagain s (λ child. answered child (with_process s child (at s.processes pid)))
 
 -- exec: the rows that are marked are closed
 abbrev pub act_exec : State → ℕ → Step
-act_exec s pid = answered 0 (close_rows true s pid 128)
+act_exec s pid = answered 0 (close_rows true s pid DESCRIPTORS)
 
 -- exit: all rows are closed, and the process is gone
 abbrev pub act_exit : State → ℕ → Step
-act_exit s pid = answered 0 (with_process (close_rows false s pid 128) pid None)
+act_exit s pid = answered 0 (with_process (close_rows false s pid DESCRIPTORS) pid None)
 
 -- getpid: the process's number
 abbrev pub act_getpid : State → ℕ → Step
@@ -50,10 +51,10 @@ duplicate s pid row least = or_fail (lowest_unused (rows_of s pid) least) Emfile
 abbrev pub act_dup : State → ℕ → ℕ → Step
 act_dup s pid fd = with_open s pid fd (λ row. duplicate s pid row 0)
 
--- dup2: EBADF, for a second number above 127 too; equal numbers change nothing; else the second is closed and made
+-- dup2: EBADF, for a second number that no descriptor has too; equal numbers change nothing; else the second is closed and made
 abbrev pub act_dup2 : State → ℕ → ℕ → ℕ → Step
 act_dup2 s pid fd new_fd = with_open s pid fd (λ row.
-    if nat_lt 127 new_fd then failed Ebadf s
+    if nat_le DESCRIPTORS new_fd then failed Ebadf s
     else if fd == new_fd then answered new_fd s
     else answered new_fd (with_row (close_row s pid new_fd) pid new_fd (Some (record row { close_on_exec = false }))))
 
@@ -76,9 +77,9 @@ has_bit word bit = not (bit_and word bit == 0)
 abbrev pub status_number : OpenFile → ℕ
 status_number file = access_number file.access + 4 * flag_number file.nonblock + 8 * flag_number file.append
 
--- fcntl F_DUPFD: EINVAL above 127; EMFILE; else the lowest unused descriptor from the argument on
+-- fcntl F_DUPFD: EINVAL for an argument that no descriptor has; EMFILE; else the lowest unused descriptor from the argument on
 abbrev pub act_duplicate_from : State → ℕ → Row → ℕ → Step
-act_duplicate_from s pid row least = fail_if (nat_lt 127 least) Einval s (duplicate s pid row least)
+act_duplicate_from s pid row least = fail_if (nat_le DESCRIPTORS least) Einval s (duplicate s pid row least)
 
 -- fcntl F_GETFD: the flag
 abbrev pub act_get_flag : State → Row → Step

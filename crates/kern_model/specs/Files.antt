@@ -1,5 +1,5 @@
 -- What the calls on open files do: the first case that applies, in the order written.
-use Rattle.std.specs.Prelude.{ℕ, ◌+◌, ◌-◌, ◌^◌, ◌==◌, nat_lt, nat_le, Bool, true, false, not, ◌&&◌, ◌||◌, List, [], ◌++◌, length, take, drop, min, max, replicate, Option, None, Some, bit_and, if◌then◌else◌}
+use Rattle.std.specs.Prelude.{ℕ, ◌+◌, ◌-◌, ◌^◌, ◌==◌, nat_lt, nat_le, Bool, true, false, not, ◌&&◌, ◌||◌, List, [], ◌++◌, length, take, drop, max, replicate, Option, None, Some, bit_and, if◌then◌else◌}
 use Rattle.sp_base.specs.declared.errno.Errno.TheVariants.{Ebadf, Emfile, Einval, Eisdir, Eexist, Enoent, Enospc, Efbig, Eopnotsupp}
 use Rattle.kern_model.specs.declared.node.Access.{Access}
 use Rattle.kern_model.specs.declared.node.Access.TheVariants.{Reading, Writing, Both}
@@ -10,6 +10,7 @@ use Rattle.kern_model.specs.declared.node.Object.TheVariants as object
 use Rattle.kern_model.specs.declared.node.OpenFile.{OpenFile}
 use Rattle.std.specs.FinMap.{insert}
 use Rattle.std.specs.Int.{w32, w64, to_le_bytes}
+use Rattle.sp_base.specs.Needs.{transfer_of}
 use Rattle.sp_base.specs.Table.{at, lowest_unused}
 use Rattle.kern_model.specs.Name.{Path, name_count}
 use Rattle.kern_model.specs.State.{State, new_file, rows_of, with_row, with_file, replace_file, with_node, with_bytes, bytes_of, kind_in, is_directory, is_socket, total_size, has_room}
@@ -90,13 +91,9 @@ act_open s pid path flags = or_fail (access_of flags) Einval s (λ access.
 abbrev pub is_negative : ℕ → Bool
 is_negative word = nat_le (2 ^ 63) word
 
--- at most this many bytes are moved by one call
-abbrev pub transfer : ℕ → ℕ
-transfer len = min len 65536
-
--- the bytes of a file from an offset on, at most so many
+-- the bytes of a file from an offset on, as many as one call moves
 abbrev pub bytes_from : State → ℕ → ℕ → ℕ → List ℕ
-bytes_from s node offset len = take (transfer len) (drop offset (bytes_of s node))
+bytes_from s node offset len = take (transfer_of len) (drop offset (bytes_of s node))
 
 -- read of a node: not open for reading EBADF; a directory EISDIR; else its bytes from an offset on, and the state after it
 abbrev pub read_node : State → ℕ → OpenFile → ℕ → ℕ → ℕ → (ℕ → State) → Step

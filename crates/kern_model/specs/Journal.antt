@@ -1,5 +1,5 @@
 -- Legal journals.
-use Rattle.std.specs.Prelude.{◌≡◌, ℕ, List, [], ◌∷◌, Option, None, Some, IsSome}
+use Rattle.std.specs.Prelude.{◌≡◌, ℕ, ◌+◌, List, [], ◌∷◌, take, slice_get, Option, None, Some, IsSome}
 use Rattle.std.specs.List.{AllByRecursion}
 use Rattle.sp_base.specs.declared.names.Pid.{Pid}
 use Rattle.kern_model.specs.declared.journal.Entry.{Entry}
@@ -13,7 +13,15 @@ use Rattle.kern_model.specs.Step.{Step}
 use Rattle.kern_model.specs.Needs.{FitsIns}
 use Rattle.kern_model.specs.Act.{act}
 
--- the process that asks: 0 for an attach, a live one for any other operation
+-- who may ask: anyone for an attach, a live process for any other operation
+abbrev pub CanAsk : State → ℕ → Op → Type 0
+CanAsk s pid Attach = Unit {0}
+CanAsk s pid Fork = IsSome (at s.processes pid)
+CanAsk s pid Exec = IsSome (at s.processes pid)
+CanAsk s pid Exit = IsSome (at s.processes pid)
+CanAsk s pid (Sys call) = IsSome (at s.processes pid)
+
+-- the process of an entry: 0 for an attach, a live one for any other operation
 abbrev pub FitsPid : State → ℕ → Op → Type 0
 FitsPid s pid Attach = pid ≡ 0
 FitsPid s pid Fork = IsSome (at s.processes pid)
@@ -39,6 +47,14 @@ state_from s (e ∷ entries) = state_from (after_entry s e) entries
 abbrev pub state_after : List Entry → State
 state_after journal = state_from opening journal
 
+-- the state before the entry of a place
+abbrev pub state_before : List Entry → ℕ → State
+state_before journal place = state_after (take place journal)
+
+-- what an operation does at a place of a journal
+abbrev pub step_at : List Entry → ℕ → ℕ → Op → Ins → Step
+step_at journal place pid op ins = act (state_before journal place) pid op ins
+
 -- the entry of a step, none where there is none
 abbrev pub entry_of_step : Pid → Who → Op → Ins → Step → Option Entry
 entry_of_step pid who op ins None = None
@@ -62,6 +78,16 @@ IsLegalFrom s (e ∷ entries) = Follows s e × IsLegalFrom (after_entry s e) ent
 -- a journal is legal: from the opening state on, each entry follows the ones before it
 abbrev pub IsLegal : List Entry → Type 0
 IsLegal journal = IsLegalFrom opening journal
+
+-- at its place, an entry follows the ones before it, and leaves the state before the next place
+pub record FollowsAt (journal : List Entry) (place : ℕ) (e : Entry) : Type 0 where
+  pub follows : Follows (state_before journal place) e
+  pub acts : step_at journal place e.pid.0 e.op e.ins ≡ Some (e.outcome, state_before journal (place + 1))
+
+-- each entry of a legal journal does so
+abbrev pub LegalJournalsReplay : Type 0
+LegalJournalsReplay = (journal : List Entry) (place : ℕ) (e : Entry)
+    → IsLegal journal → slice_get journal place ≡ Some e → FollowsAt journal place e
 
 -- no entry of the journal was made for this one
 abbrev pub IsNew : Who → List Entry → Type 0

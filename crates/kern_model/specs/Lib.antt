@@ -12,4 +12,7 @@ pub mod Journal
 pub mod Plain
 pub mod NameMap
 pub mod StateCode
+pub mod Sound
 pub mod Laws
+pub mod NameLaws
+pub mod FileLaws

@@ -18,13 +18,17 @@ is_root path = is_same_path path []
 abbrev pub without_name : State → Path → ℕ → State
 without_name s path node = without_unused (record s { names = remove s.names path }) node
 
+-- a node has at most 32,767 names
+abbrev pub link_limit : ℕ
+link_limit = 32767
+
 -- link: the old path's faults and ENOENT; a directory EPERM; the new path's faults; found EEXIST; 32,767 links EMLINK; the node has one name more
 abbrev pub act_link : State → ℕ → List ℕ → List ℕ → Step
 act_link s pid old new = with_found (walk s pid old) s (λ old_path node named.
     fail_if (is_directory s node) Eperm s
     (with_missing (walk s pid new) Eexist s (λ path slash.
     fail_if slash Enoent s
-    (fail_if (nat_le 32767 (name_count s.names node)) Emlink s
+    (fail_if (nat_le link_limit (name_count s.names node)) Emlink s
     (answered 0 (record s { names = insert s.names path node }))))))
 
 -- unlink: the path's faults; ENOENT; a directory EPERM; the name is gone

@@ -1,51 +1,28 @@
--- What an operation reads of the caller's memory, and what was gathered for it.
-use Rattle.std.specs.Prelude.{◌≡◌, ℕ, ◌<◌, ◌==◌, Bool, true, false, List, [], ◌∷◌, length, IsTrue, if◌then◌else◌}
+-- What was gathered for an operation fits what it reads.
+use Rattle.std.specs.Prelude.{◌≡◌, ℕ, ◌<◌, Bool, true, false, List, [], ◌∷◌, length, IsTrue}
 use Rattle.std.specs.List.{list_any, AllByRecursion}
-use Rattle.sp_base.specs.declared.call.Call.{Call}
-use Rattle.sp_base.specs.declared.call.Call.TheVariants as call
+use Rattle.sp_base.specs.Needs.{needs_of}
 use Rattle.sp_base.specs.declared.errno.Errno.{Errno}
 use Rattle.sp_base.specs.declared.errno.Errno.TheVariants.{Efault, Enametoolong}
+use Rattle.sp_base.specs.declared.need.Need.{Need}
+use Rattle.sp_base.specs.declared.need.Need.TheVariants.{Bytes, Text}
 use Rattle.kern_model.specs.declared.operation.Op.{Op}
 use Rattle.kern_model.specs.declared.operation.Op.TheVariants.{Sys, Attach, Fork, Exec, Exit}
 use Rattle.kern_model.specs.declared.operation.Ins.{Ins}
 use Rattle.kern_model.specs.declared.operation.Ins.TheVariants.{Given, Fault}
-use Rattle.kern_model.specs.Files.{transfer}
 
--- one thing that is read: a text that ends before 1,024 bytes, or so many bytes
-pub data Need : Type 0 where
-  Text : Need
-  Bytes : ℕ → Need
-
--- the bytes of a range; an empty range is not read
-abbrev pub bytes_need : ℕ → List Need
-bytes_need len = if len == 0 then [] else Bytes len ∷ []
-
--- what a call reads, in order
-abbrev pub call_needs : Call → List Need
-call_needs (call.Open path flags) = Text ∷ []
-call_needs (call.Write fd input len) = bytes_need (transfer len)
-call_needs (call.Pwrite fd input len offset) = bytes_need (transfer len)
-call_needs (call.Stat path out) = Text ∷ []
-call_needs (call.Link path new_path) = Text ∷ Text ∷ []
-call_needs (call.Unlink path) = Text ∷ []
-call_needs (call.Rename path new_path) = Text ∷ Text ∷ []
-call_needs (call.Mkdir path) = Text ∷ []
-call_needs (call.Rmdir path) = Text ∷ []
-call_needs (call.Chdir path) = Text ∷ []
-call_needs _ = []
-
--- what an operation reads, in order
+-- what an operation reads, in order: only calls read
 abbrev pub needs : Op → List Need
-needs (Sys call) = call_needs call
+needs (Sys call) = needs_of call
 needs Attach = []
 needs Fork = []
 needs Exec = []
 needs Exit = []
 
--- a piece is what a need asks for: a text without its zero byte, or as many bytes as the range has
+-- a piece is what a need asks for: as many bytes as its range has, or a text without its zero byte, below its limit
 abbrev pub IsPiece : Need → List ℕ → Type 0
-IsPiece Text piece = (length piece < 1024) × AllByRecursion (λ b. b ≡ 0 → ⊥) piece
-IsPiece (Bytes len) piece = length piece ≡ len
+IsPiece (Bytes addr len) piece = length piece ≡ len
+IsPiece (Text addr limit) piece = (length piece < limit) × AllByRecursion (λ b. b ≡ 0 → ⊥) piece
 
 -- there is one piece for each need
 abbrev pub ArePieces : List Need → List (List ℕ) → Type 0
@@ -56,8 +33,8 @@ ArePieces (need ∷ rest) (piece ∷ pieces) = IsPiece need piece × ArePieces r
 
 -- a need is a text
 abbrev pub is_text : Need → Bool
-is_text Text = true
-is_text (Bytes len) = false
+is_text (Bytes addr len) = false
+is_text (Text addr limit) = true
 
 -- something is read
 abbrev pub reads : List Need → Bool

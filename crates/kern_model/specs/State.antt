@@ -1,7 +1,8 @@
 -- What a kernel holds.
-use Rattle.std.specs.Prelude.{ℕ, zero, suc, ◌^◌, ◌==◌, nat_lt, Bool, true, false, not, ◌&&◌, ◌||◌, List, [], ◌∷◌, ◌++◌, length, sum_by, count_by, Option, None, Some, is_some, replicate, slice_set, if◌then◌else◌}
+use Rattle.std.specs.Prelude.{ℕ, zero, suc, ◌+◌, ◌^◌, ◌==◌, nat_lt, Bool, true, false, not, ◌&&◌, ◌||◌, List, [], ◌∷◌, ◌++◌, length, sum_by, count_by, Option, None, Some, is_some, replicate, slice_set, if◌then◌else◌}
 use Rattle.std.specs.List.{list_any}
 use Rattle.std.specs.FinMap.{empty, insert}
+use Rattle.sp_base.specs.declared.limits.TheConstants.{DESCRIPTORS, PROCESSES, FIRST_PROCESS}
 use Rattle.kern_model.specs.declared.node.Node.{Node}
 use Rattle.kern_model.specs.declared.node.NodeKind.{NodeKind}
 use Rattle.kern_model.specs.declared.node.NodeKind.TheVariants.{File, Directory, Socket}
@@ -12,7 +13,7 @@ use Rattle.kern_model.specs.declared.node.Row.{Row}
 use Rattle.sp_base.specs.Table.{at}
 use Rattle.kern_model.specs.Name.{Names, name_count}
 
--- a process: its working directory, a node, and its rows by descriptor, 0 to 127
+-- a process: its working directory, a node, and its rows by descriptor
 pub record Process : Type 0 where
   pub directory : ℕ
   pub rows : List (Option Row)
@@ -39,11 +40,15 @@ new_file = record { kind = File; bytes = [] }
 
 -- a process with no descriptors in the root directory
 abbrev pub fresh_process : Process
-fresh_process = record { directory = root; rows = replicate 128 None }
+fresh_process = record { directory = root; rows = replicate DESCRIPTORS None }
+
+-- how many numbers of processes there are, with those that no process has
+abbrev pub process_numbers : ℕ
+process_numbers = FIRST_PROCESS + PROCESSES
 
 -- the state before any operation: the root directory, and no process
 abbrev pub opening : State
-opening = record { names = insert empty [] root; nodes = None ∷ Some new_directory ∷ []; processes = replicate 258 None; files = [] }
+opening = record { names = insert empty [] root; nodes = None ∷ Some new_directory ∷ []; processes = replicate process_numbers None; files = [] }
 
 -- ---- processes and descriptors
 
@@ -143,9 +148,13 @@ total_size s = sum_by (λ node. length (bytes_in node)) s.nodes
 abbrev pub node_count : State → ℕ
 node_count s = count_by is_some s.nodes
 
--- another node can be made: there are fewer than 65,536, and the number 2^64 - 1 wasn't given
+-- there are at most 65,536 nodes
+abbrev pub node_limit : ℕ
+node_limit = 65536
+
+-- another node can be made: there are fewer than the limit, and the number 2^64 - 1 wasn't given
 abbrev pub has_room : State → Bool
-has_room s = nat_lt (node_count s) 65536 && nat_lt (length s.nodes) (2 ^ 64)
+has_room s = nat_lt (node_count s) node_limit && nat_lt (length s.nodes) (2 ^ 64)
 
 -- a node with other bytes, where there is a node
 abbrev pub replace_bytes : Option Node → List ℕ → Option Node

@@ -5,7 +5,7 @@ ghost use Rattle.kern_model.specs.State.{Process, fresh_process, is_row_of};
 
 use crate::node::Row;
 use sp_base::table;
-use sp_base::NoMemory;
+use sp_base::{DESCRIPTORS, NoMemory};
 use std::alloc::Global;
 use std::marker::Model;
 
@@ -18,6 +18,7 @@ pub struct Descriptors {
 
 impl Model for Descriptors {
     ghost use Rattle.std.specs.Prelude.{◌≡◌, length};
+    ghost use Rattle.sp_base.specs.declared.limits.TheConstants.{DESCRIPTORS};
     ghost use Rattle.kern_model.specs.State.{Process};
     ghost use Rattle.kern_model.specs.StateCode.{process_code};
 
@@ -27,7 +28,7 @@ impl Model for Descriptors {
 
     ghost view = { λ d. record { directory = d.directory; rows = d.rows.items } };
 
-    ghost invariant = { λ d. length d.rows.items ≡ 128 };
+    ghost invariant = { λ d. length d.rows.items ≡ DESCRIPTORS };
 }
 
 /// Whether a row is of an open file.
@@ -70,7 +71,7 @@ impl Descriptors {
     {
         Ok(Descriptors {
             directory: 1,
-            rows: table::blank(alloc, 128)?,
+            rows: table::blank(alloc, DESCRIPTORS as usize)?,
         })
     }
 

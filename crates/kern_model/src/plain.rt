@@ -1,5 +1,6 @@
 ghost use Rattle.std.specs.Prelude.{◌≡◌, ℕ, ◌<◌, length, IfOk, IsSome, Some, None, IsTrue, ◌↔◌};
 ghost use Rattle.std.specs.List.{list_any};
+ghost use Rattle.sp_base.specs.declared.limits.TheConstants.{FIRST_PROCESS};
 ghost use Rattle.sp_base.specs.Table.{at, lowest_unused};
 ghost use Rattle.kern_model.specs.State.{opening, rows_of, is_row_of, rows_in, is_held, is_of_node, stays, without_unused, let_go_of, let_go, with_row, closes, close_row, close_rows};
 ghost use Rattle.kern_model.specs.Outcome.{success, failure};
@@ -23,7 +24,7 @@ use crate::name_map::NameMap;
 use crate::node::{Node, NodeKind, Object, OpenFile, Row};
 use crate::outcome::Outcome;
 use sp_base::table;
-use sp_base::{Errno, Items, NoMemory, Octets, Pid};
+use sp_base::{Errno, FIRST_PROCESS, PROCESSES, Items, NoMemory, Octets, Pid};
 use std::alloc::Global;
 use std::marker::Model;
 
@@ -39,7 +40,7 @@ pub struct Plain {
 
 impl Model for Plain {
     ghost use Rattle.std.specs.Prelude.{◌≡◌, length};
-    ghost use Rattle.kern_model.specs.State.{State};
+    ghost use Rattle.kern_model.specs.State.{State, process_numbers};
     ghost use Rattle.kern_model.specs.StateCode.{state_code};
 
     ghost Value = { State };
@@ -48,7 +49,7 @@ impl Model for Plain {
 
     ghost view = { λ p. record { names = p.names; nodes = p.nodes.items; processes = p.processes.items; files = p.files.items } };
 
-    ghost invariant = { λ p. length p.processes.items ≡ 258 };
+    ghost invariant = { λ p. length p.processes.items ≡ process_numbers };
 }
 
 /// Whether some row of some process is of an open file.
@@ -113,7 +114,7 @@ impl Plain {
             alloc,
             names,
             nodes: first_nodes(alloc)?,
-            processes: table::blank(alloc, 258)?,
+            processes: table::blank(alloc, (FIRST_PROCESS + PROCESSES) as usize)?,
             files: Vec::new(alloc),
         })
     }
@@ -128,9 +129,9 @@ impl Plain {
 
     /// Whether every number of a process is used.
     pub fn is_full(&self) -> bool
-        ensures { IsTrue result ↔ (lowest_unused self.now.processes 2 ≡ None) }
+        ensures { IsTrue result ↔ (lowest_unused self.now.processes FIRST_PROCESS ≡ None) }
     {
-        table::lowest_unused(&self.processes, 2).is_none()
+        table::lowest_unused(&self.processes, FIRST_PROCESS as usize).is_none()
     }
 
     /// A success with one value.

@@ -20,9 +20,7 @@ use Rattle.kern_model.specs.Act.{act, act_call}
 use Rattle.kern_model.specs.Journal.{state_after, entry_of_step, next_entry}
 use Rattle.kern_model.specs.Needs.{FitsIns}
 use Rattle.sp_base.proofs.TableLaws.{at_within, lowest_unused_is}
-use Rattle.kern_model.proofs.SoundLaws.{each_is}
-use Rattle.kern_model.proofs.ProcessLaws.{call_keeps, exit_ends}
-use Rattle.kern_model.proofs.JournalLaws.{journal_tables}
+use Rattle.kern_model.proofs.Lemmas.{each_is, call_keeps, exit_ends, journal_tables}
 use Rattle.sp_hub.specs.Step.{nothing_read}
 use Rattle.sp_hub.specs.Verdict.{is_taken}
 use Rattle.sp_hub.proofs.Journals.{entry, state_after-push, after_entry-entry}

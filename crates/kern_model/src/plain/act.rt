@@ -1,7 +1,7 @@
 ghost use Rattle.std.specs.Prelude.{◌≡◌, IfOk, OnErr, IsSome, None, Ok};
 ghost use Rattle.sp_base.specs.Table.{at};
 ghost use Rattle.kern_model.specs.Act.{first, second, act, act_op, act_call};
-ghost use Rattle.kern_model.specs.Journal.{FitsPid};
+ghost use Rattle.kern_model.specs.Journal.{CanAsk};
 ghost use Rattle.kern_model.specs.Plain.{step_of};
 
 use super::Plain;
@@ -76,7 +76,7 @@ impl Plain {
 
     /// Performs an operation that has all that it reads.
     fn perform(&mut self, pid: Pid, op: &Op, pieces: &Pieces) -> Result<Option<Outcome>, NoMemory>
-        requires { FitsPid self.old pid.0 op.now }
+        requires { CanAsk self.old pid.0 op.now }
         ensures ok { IfOk result (λ answer. act_op self.old pid.0 op.now pieces.now ≡ step_of answer self.new) }
         ensures waits { result ≡ Ok None → self.new ≡ self.old }
         ensures err { OnErr result (self.new ≡ self.old) }
@@ -93,7 +93,7 @@ impl Plain {
     /// Performs an operation: the outcome that the definition gives in this state, and the state after it.
     /// None, exactly where the definition has no step, and want of memory leave the state as it was.
     pub fn act(&mut self, pid: Pid, op: &Op, ins: &Ins) -> Result<Option<Outcome>, NoMemory>
-        requires process { FitsPid self.old pid.0 op.now }
+        requires process { CanAsk self.old pid.0 op.now }
         ensures ok { IfOk result (λ answer. act self.old pid.0 op.now ins.now ≡ step_of answer self.new) }
         ensures waits { result ≡ Ok None → self.new ≡ self.old }
         ensures err { OnErr result (self.new ≡ self.old) }

@@ -7,7 +7,7 @@ use super::Plain;
 use crate::node::{Access, OpenFile, Row};
 use crate::outcome::Outcome;
 use sp_base::table;
-use sp_base::{Errno, Pid};
+use sp_base::{DESCRIPTORS, Errno, Pid};
 
 /// Whether a bit of a word is set.
 pub(crate) fn has_bit(word: u64, bit: u64) -> bool
@@ -108,7 +108,7 @@ impl Plain {
         let Some(row) = self.row(pid, fd) else {
             return self.failed(Errno::Ebadf);
         };
-        if new_fd > 127 {
+        if new_fd >= DESCRIPTORS {
             return self.failed(Errno::Ebadf);
         }
         if fd == new_fd {
@@ -124,7 +124,7 @@ impl Plain {
         requires { IsSome (at self.old.processes pid.0) }
         ensures { act_duplicate_from self.old pid.0 row least ≡ Some (result, self.new) }
     {
-        if least > 127 {
+        if least >= DESCRIPTORS {
             return self.failed(Errno::Einval);
         }
         self.duplicate(pid, row, least)

@@ -1,15 +1,16 @@
 ghost use Rattle.std.specs.Prelude.{◌≡◌, ℕ, ◌+◌, ◌^◌, ◌<◌, length, take, drop, IfOk, OnErr, IsSome, Some};
 ghost use Rattle.sp_base.specs.Table.{at};
+ghost use Rattle.sp_base.specs.Needs.{transfer_of};
 ghost use Rattle.kern_model.specs.State.{bytes_in, bytes_of};
 ghost use Rattle.kern_model.specs.Outcome.{success};
 ghost use Rattle.kern_model.specs.Step.{piece_at};
-ghost use Rattle.kern_model.specs.Files.{act_read, act_pread, may_read, transfer, is_negative};
+ghost use Rattle.kern_model.specs.Files.{act_read, act_pread, may_read, is_negative};
 
 use super::Plain;
 use super::file_bytes::bytes_in;
 use crate::node::{Access, Node, OpenFile};
 use crate::outcome::{OutPiece, Outcome};
-use sp_base::{Errno, Items, NoMemory, Octets, Pid};
+use sp_base::{Errno, Items, NoMemory, Octets, Pid, TRANSFER};
 use std::alloc::Global;
 
 /// Whether an access allows reading.
@@ -39,7 +40,7 @@ fn bytes_at(nodes: &[Option<Node>], n: u64) -> &[u8]
 
 /// A copy of what one call moves of bytes from an offset on.
 fn copy_range(alloc: Global, bytes: &[u8], offset: u64, len: u64) -> Result<Octets, NoMemory>
-    ensures piece { IfOk result (λ piece. piece ≡ take (transfer len) (drop offset bytes.now)) }
+    ensures piece { IfOk result (λ piece. piece ≡ take (transfer_of len) (drop offset bytes.now)) }
     ensures end { IfOk result (λ piece. offset + length piece < 2 ^ 64) }
 {
     let start = offset as usize;
@@ -47,7 +48,7 @@ fn copy_range(alloc: Global, bytes: &[u8], offset: u64, len: u64) -> Result<Octe
         return Ok(Octets::none(alloc));
     }
     let (_, behind) = bytes.split_at(start);
-    let count = if len < 65536 { len as usize } else { 65536 };
+    let count = len.min(TRANSFER) as usize;
     if count >= behind.len() {
         return Octets::of(alloc, behind);
     }

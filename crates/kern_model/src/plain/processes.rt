@@ -6,7 +6,7 @@ use super::{Plain, close_rows};
 use crate::descriptors::Descriptors;
 use crate::outcome::Outcome;
 use sp_base::table;
-use sp_base::{Errno, NoMemory, Pid};
+use sp_base::{DESCRIPTORS, Errno, FIRST_PROCESS, NoMemory, Pid};
 
 impl Plain {
     /// A new process in the root directory. Want of memory leaves the state as it was.
@@ -14,7 +14,7 @@ impl Plain {
         ensures ok { IfOk result (λ outcome. act_attach self.old ≡ Some (outcome, self.new)) }
         ensures err { OnErr result (self.new ≡ self.old) }
     {
-        let Some(n) = table::lowest_unused(&self.processes, 2) else {
+        let Some(n) = table::lowest_unused(&self.processes, FIRST_PROCESS as usize) else {
             return Ok(self.failed(Errno::Eagain));
         };
         let fresh = Descriptors::fresh(self.alloc)?;
@@ -39,7 +39,7 @@ impl Plain {
         ensures ok { IfOk result (λ outcome. act_fork self.old pid.0 ≡ Some (outcome, self.new)) }
         ensures err { OnErr result (self.new ≡ self.old) }
     {
-        let Some(child) = table::lowest_unused(&self.processes, 2) else {
+        let Some(child) = table::lowest_unused(&self.processes, FIRST_PROCESS as usize) else {
             return Ok(self.failed(Errno::Eagain));
         };
         let copy = self.copy_of(pid)?;
@@ -52,7 +52,7 @@ impl Plain {
         requires { IsSome (at self.old.processes pid.0) }
         ensures { act_exec self.old pid.0 ≡ Some (result, self.new) }
     {
-        close_rows(self, true, pid, 128);
+        close_rows(self, true, pid, DESCRIPTORS);
         self.done(0)
     }
 
@@ -61,7 +61,7 @@ impl Plain {
         requires { IsSome (at self.old.processes pid.0) }
         ensures { act_exit self.old pid.0 ≡ Some (result, self.new) }
     {
-        close_rows(self, false, pid, 128);
+        close_rows(self, false, pid, DESCRIPTORS);
         table::set(&mut self.processes, u64::from(pid.0), None);
         self.done(0)
     }
