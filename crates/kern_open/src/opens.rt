@@ -18,7 +18,9 @@ use std::marker::Model;
 /// memory.
 #[derive(Drop)]
 pub struct Opens {
+    /// The file of a row here is the key under which `files` holds it.
     procs: Procs,
+    /// Each open file with its count, by the number that contracts see in its rows.
     files: Numbered<Shared>,
 }
 
