@@ -59,9 +59,9 @@ impl Directories {
         })
     }
 
-    /// That the names are a tree, for callers that know of them only what the calls before said;
-    /// does nothing.
-    pub fn is_whole(&self)
+    /// A law, which does nothing: the root is a directory, each other path stands in one, and a
+    /// directory has one path.
+    pub fn names_are_a_tree(&self)
         ensures { IsWhole self.now }
     {
         let _ = &self.directories;

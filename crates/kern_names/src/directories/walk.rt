@@ -81,7 +81,7 @@ impl Directories {
         ensures { (s : State) (pid : ℕ) → HasNames s self.now → directory_of s pid ≡ working.0
             → Reaches self.now text.now (walk s pid text.now) result }
     {
-        self.is_whole();
+        self.names_are_a_tree();
         if text.is_empty() {
             return Walked::Fault(Errno::Enoent);
         }

@@ -16,7 +16,7 @@ pub walk_from-requires-clause-within : goal.walk_from-requires-clause-within
 walk_from-requires-clause-within c =
     let now = c.args.self.now in
     elim c.if-text-eq47.branch [
-      | then-text-eq47 w ↦ subst (λ (n : NodeNo). has_directory now n.0 ≡ true) (sym w.start-is) c.is_whole.ensures.root_directory
+      | then-text-eq47 w ↦ subst (λ (n : NodeNo). has_directory now n.0 ≡ true) (sym w.start-is) c.names_are_a_tree.ensures.root_directory
       | else-text-eq47 w ↦ subst (λ (n : NodeNo). has_directory now n.0 ≡ true) (sym w.start-is) c.requires.within
     ]
 
@@ -29,11 +29,11 @@ returns c s pid has at =
     elim c.if-text-eq47.branch [
       | then-text-eq47 w ↦
           subst (λ (v : Way). Reaches now text v c.walk_from.result) (sym (from_root s pid text some short (eq-eqb _ 47 w.if-text-eq47.true)))
-          (c.walk_from.ensures s [] has (c.is_whole.ensures.top ∙ ap (λ (n : NodeNo). Some n.0) (sym w.start-is)))
+          (c.walk_from.ensures s [] has (c.names_are_a_tree.ensures.top ∙ ap (λ (n : NodeNo). Some n.0) (sym w.start-is)))
       | else-text-eq47 w ↦
-          (let place = c.is_whole.ensures.placed c.args.working.0 c.requires.within in
+          (let place = c.names_are_a_tree.ensures.placed c.args.working.0 c.requires.within in
           let working : path_of s.names (directory_of s pid) ≡ Some place.path = (λ i. path_of (has.names i) (at i))
-          ∙ path_of_is now.names c.args.working.0 place.path (λ q e. c.is_whole.ensures.once q place.path c.args.working.0 c.requires.within e place.stands) place.stands in
+          ∙ path_of_is now.names c.args.working.0 place.path (λ q e. c.names_are_a_tree.ensures.once q place.path c.args.working.0 c.requires.within e place.stands) place.stands in
           subst (λ (v : Way). Reaches now text v c.walk_from.result)
           (sym (from_working s pid text some short place.path (false_from_ne_true _ (λ t. w.if-text-eq47.false (eqb-true _ 47 t))) working))
           (c.walk_from.ensures s place.path has (place.stands ∙ ap (λ (n : NodeNo). Some n.0) (sym w.start-is))))
