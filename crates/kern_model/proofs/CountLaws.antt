@@ -1,5 +1,5 @@
 -- How many names a node has, how many nodes there are and how many bytes they have, once one of these changes.
-use Rattle.std.specs.Prelude.{slice_set, not, filter, is_some, count_by, sum_by}
+use Rattle.std.specs.Prelude.{slice_set, not, filter, sum_by}
 use Rattle.std.proofs.Common.{◌≡◌, cond, ℕ, zero, suc, ◌+◌, ◌≤◌, Bool, true, false, ◌==◌, List, [], ◌∷◌, ◌++◌, length, Option, None, refl, sym, ap, ◌∙◌, arith}
 use Rattle.std.proofs.lemmas.List.Sums.{sum_by-cons}
 use Rattle.std.specs.declared.cmp.Ordering.TheVariants.{Less, Equal, Greater}
@@ -100,10 +100,6 @@ sum_set f (y ∷ table) (suc n) x none =
     let was = sum_by-cons f y table in
     let is = sum_by-cons f y (slice_set table n x) in
     omega arith
-
--- how many numbers are used, as a sum
-pub count_sum : {X : Type 0} (table : List (Option X)) → count_by is_some table ≡ sum_by (λ o. one_if (is_some o)) table
-count_sum table = refl
 
 -- what holds of all numbers and of what is put behind them holds of all numbers then
 pub all_end : {X : Type 0} (P : Option X → Type 0) (table : List (Option X)) (x : Option X) → P x → ((q : ℕ) → P (at table q)) → (q : ℕ) → P (at (table ++ x ∷ []) q)

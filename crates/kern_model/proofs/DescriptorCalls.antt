@@ -45,5 +45,5 @@ module _ (waits : Type 0) (pid : ℕ) (s : State) where
       holds_if (command == 2) _ _ (λ _. does_answered pid s 0 _ (Marks fd row (has_bit argument 1) e)) (λ _.
       holds_if (command == 3) _ _ (λ _. holds_or_fail s (at s.files row.file) Ebadf _ (fails pid s) (λ file f. does_answered pid s _ s Stays)) (λ _.
       holds_if (command == 4) _ _ (λ _. holds_or_fail s (at s.files row.file) Ebadf _ (fails pid s) (λ file f.
-          does_answered pid s 0 _ (Refiles row.file file (record file { append = has_bit argument 8; nonblock = has_bit argument 4 }) f refl))) (λ _.
+      does_answered pid s 0 _ (Refiles row.file file (record file { append = has_bit argument 8; nonblock = has_bit argument 4 }) f refl))) (λ _.
       holds_failed s Einval (fails pid s)))))))

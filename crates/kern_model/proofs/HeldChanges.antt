@@ -32,12 +32,12 @@ there_with s t same (object.Node node) there = ap (λ (nodes : List (Option Node
 -- a row of an open file that is there, at a descriptor that was unused
 held_shared : (s : State) (pid fd : ℕ) (row : Row) → at (rows_of s pid) fd ≡ None → IsSome (at s.files row.file) → IsHeld s → IsHeld (with_row s pid fd (Some row))
 held_shared s pid fd row unused there h = record {
-    rows = λ q k r e. rows_after q k r (row_cases s pid fd (Some row) q k r e);
-    files = λ number f. files_after number (held_row s number (h.files number f));
-    objects = λ number file e. there_with s after refl file.object (h.objects number file e);
-    names = h.names;
-    nodes = h.nodes;
-  } where
+  rows = λ q k r e. rows_after q k r (row_cases s pid fd (Some row) q k r e);
+  files = λ number f. files_after number (held_row s number (h.files number f));
+  objects = λ number file e. there_with s after refl file.object (h.objects number file e);
+  names = h.names;
+  nodes = h.nodes;
+} where
   after : State
   after = with_row s pid fd (Some row)
 
@@ -58,12 +58,12 @@ held_shared s pid fd row unused there h = record {
 -- a row of the same open file
 held_marked : (s : State) (pid fd : ℕ) (row new : Row) → at (rows_of s pid) fd ≡ Some row → new.file ≡ row.file → IsHeld s → IsHeld (with_row s pid fd (Some new))
 held_marked s pid fd row new e same h = record {
-    rows = λ q k r f. rows_after q k r (row_cases s pid fd (Some new) q k r f);
-    files = λ number there. files_after number (held_row s number (h.files number there));
-    objects = λ number file f. there_with s after refl file.object (h.objects number file f);
-    names = h.names;
-    nodes = h.nodes;
-  } where
+  rows = λ q k r f. rows_after q k r (row_cases s pid fd (Some new) q k r f);
+  files = λ number there. files_after number (held_row s number (h.files number there));
+  objects = λ number file f. there_with s after refl file.object (h.objects number file f);
+  names = h.names;
+  nodes = h.nodes;
+} where
   after : State
   after = with_row s pid fd (Some new)
 
@@ -98,12 +98,12 @@ held_marked s pid fd row new e same h = record {
 -- another open file of the same object
 held_refiled : (s : State) (number : ℕ) (old file : OpenFile) → at s.files number ≡ Some old → file.object ≡ old.object → IsHeld s → IsHeld (replace_file s number file)
 held_refiled s number old file e same h = record {
-    rows = λ q k r f. live r.file ∙ h.rows q k r f;
-    files = λ n there. h.files n (sym (live n) ∙ there);
-    objects = λ n f g. there_with s after refl f.object (objects_after n f (set_cases s.files number (Some file) n f g));
-    names = h.names;
-    nodes = λ node there. stays_still s after node (λ name. inl name) (λ has. inr (files_after node has (cases_eq has.number number))) (h.nodes node there);
-  } where
+  rows = λ q k r f. live r.file ∙ h.rows q k r f;
+  files = λ n there. h.files n (sym (live n) ∙ there);
+  objects = λ n f g. there_with s after refl f.object (objects_after n f (set_cases s.files number (Some file) n f g));
+  names = h.names;
+  nodes = λ node there. stays_still s after node (λ name. inl name) (λ has. inr (files_after node has (cases_eq has.number number))) (h.nodes node there);
+} where
   after : State
   after = replace_file s number file
 
@@ -127,12 +127,12 @@ held_refiled s number old file e same h = record {
 held_opened : (s : State) (pid fd node : ℕ) (file : OpenFile) (flag : Bool) → lowest_unused (rows_of s pid) 0 ≡ Some fd → file.object ≡ object.Node node → IsSome (at s.nodes node) → IsHeld s
     → IsHeld (with_row (with_file s file) pid fd (Some (record { file = length s.files; close_on_exec = flag })))
 held_opened s pid fd node file flag low of there h = record {
-    rows = λ q k r e. rows_after q k r (row_cases opened pid fd (Some row) q k r e);
-    files = λ number e. files_by number (has_from (at opened.files number) e).value (end_cases s.files (Some file) number _ (has_from (at opened.files number) e).is);
-    objects = λ number f e. objects_by number f (end_cases s.files (Some file) number f e);
-    names = h.names;
-    nodes = λ n e. stays_still s after n (λ name. inl name) (λ has. inr (record { number = has.number; file = has.file; there = end_stays s.files (Some file) has.number has.file has.there; of = has.of })) (h.nodes n e);
-  } where
+  rows = λ q k r e. rows_after q k r (row_cases opened pid fd (Some row) q k r e);
+  files = λ number e. files_by number (has_from (at opened.files number) e).value (end_cases s.files (Some file) number _ (has_from (at opened.files number) e).is);
+  objects = λ number f e. objects_by number f (end_cases s.files (Some file) number f e);
+  names = h.names;
+  nodes = λ n e. stays_still s after n (λ name. inl name) (λ has. inr (record { number = has.number; file = has.file; there = end_stays s.files (Some file) has.number has.file has.there; of = has.of })) (h.nodes n e);
+} where
   row : Row
   row = record { file = length s.files; close_on_exec = flag }
 
@@ -178,12 +178,12 @@ bytes_live (Some node) bytes = refl
 
 held_written : (s : State) (node : ℕ) (bytes : List ℕ) → IsHeld s → IsHeld (with_bytes s node bytes)
 held_written s node bytes h = record {
-    rows = h.rows;
-    files = h.files;
-    objects = λ number file e. objects_after file.object (h.objects number file e);
-    names = λ path n e. live n ∙ h.names path n e;
-    nodes = λ n there. h.nodes n (sym (live n) ∙ there);
-  } where
+  rows = h.rows;
+  files = h.files;
+  objects = λ number file e. objects_after file.object (h.objects number file e);
+  names = λ path n e. live n ∙ h.names path n e;
+  nodes = λ n there. h.nodes n (sym (live n) ∙ there);
+} where
   live : (n : ℕ) → is_some (at (with_bytes s node bytes).nodes n) ≡ is_some (at s.nodes n)
   live n = seen_same (λ (o : Option Node). is_some o) s.nodes node (replace_bytes (at s.nodes node) bytes) n (bytes_live (at s.nodes node) bytes)
 
@@ -200,12 +200,12 @@ name_stays names new node n free name = record { path = name.path; stands = inse
 
 held_made : (s : State) (path : Path) (node : Node) → get s.names path ≡ None → IsHeld s → IsHeld (record (with_node s node) { names = insert s.names path (length s.nodes) })
 held_made s path node free h = record {
-    rows = h.rows;
-    files = h.files;
-    objects = λ number file e. objects_after file.object (h.objects number file e);
-    names = λ p n e. names_by n (insert_cases s.names path (length s.nodes) p n e);
-    nodes = λ n e. nodes_by n (has_from (at after.nodes n) e).value (end_cases s.nodes (Some node) n _ (has_from (at after.nodes n) e).is);
-  } where
+  rows = h.rows;
+  files = h.files;
+  objects = λ number file e. objects_after file.object (h.objects number file e);
+  names = λ p n e. names_by n (insert_cases s.names path (length s.nodes) p n e);
+  nodes = λ n e. nodes_by n (has_from (at after.nodes n) e).value (end_cases s.nodes (Some node) n _ (has_from (at after.nodes n) e).is);
+} where
   after : State
   after = record (with_node s node) { names = insert s.names path (length s.nodes) }
 
@@ -225,12 +225,12 @@ held_made s path node free h = record {
 
 held_linked : (s : State) (path : Path) (node : ℕ) → get s.names path ≡ None → IsSome (at s.nodes node) → IsHeld s → IsHeld (record s { names = insert s.names path node })
 held_linked s path node free there h = record {
-    rows = h.rows;
-    files = h.files;
-    objects = λ number file e. there_with s after refl file.object (h.objects number file e);
-    names = λ p n e. names_by n (insert_cases s.names path node p n e);
-    nodes = λ n e. stays_still s after n (λ name. inl (name_stays s.names path node n free name)) (λ has. inr has) (h.nodes n e);
-  } where
+  rows = h.rows;
+  files = h.files;
+  objects = λ number file e. there_with s after refl file.object (h.objects number file e);
+  names = λ p n e. names_by n (insert_cases s.names path node p n e);
+  nodes = λ n e. stays_still s after n (λ name. inl (name_stays s.names path node n free name)) (λ has. inr has) (h.nodes n e);
+} where
   after : State
   after = record s { names = insert s.names path node }
 
@@ -240,25 +240,25 @@ held_linked s path node free there h = record {
 
 held_unlinked : (s : State) (path : Path) (node : ℕ) → get s.names path ≡ Some node → IsHeld s → IsHeld (without_name s path node)
 held_unlinked s path node e h = held_unused taken node (record {
-    rows = h.rows;
-    files = h.files;
-    objects = λ number file f. there_with s taken refl file.object (h.objects number file f);
-    names = λ p n f. h.names p n (remove_was s.names path p n f);
-    nodes = λ n ne there. stays_still s taken n
-        (λ name. inl (record { path = name.path; stands = remove_other s.names path name.path (paths_apart s.names path name.path node n e name.stands ne) ∙ name.stands }))
-        (λ has. inr has) (h.nodes n there);
-  }) where
+  rows = h.rows;
+  files = h.files;
+  objects = λ number file f. there_with s taken refl file.object (h.objects number file f);
+  names = λ p n f. h.names p n (remove_was s.names path p n f);
+  nodes = λ n ne there. stays_still s taken n
+      (λ name. inl (record { path = name.path; stands = remove_other s.names path name.path (paths_apart s.names path name.path node n e name.stands ne) ∙ name.stands }))
+      (λ has. inr has) (h.nodes n there);
+}) where
   taken : State
   taken = record s { names = remove s.names path }
 
 held_moved : (s : State) (old new : Path) → KeepsNames s old new → IsHeld s → IsHeld (moved s old new)
 held_moved s old new keeps h = record {
-    rows = h.rows;
-    files = h.files;
-    objects = λ number file e. there_with s (moved s old new) refl file.object (h.objects number file e);
-    names = λ p n e. (let name = keeps.came p n e in h.names name.path n name.stands);
-    nodes = λ n there. stays_still s (moved s old new) n (λ name. inl (keeps.goes n name)) (λ has. inr has) (h.nodes n there);
-  }
+  rows = h.rows;
+  files = h.files;
+  objects = λ number file e. there_with s (moved s old new) refl file.object (h.objects number file e);
+  names = λ p n e. (let name = keeps.came p n e in h.names name.path n name.stands);
+  nodes = λ n there. stays_still s (moved s old new) n (λ name. inl (keeps.goes n name)) (λ has. inr has) (h.nodes n there);
+}
 
 -- ---- processes
 
@@ -268,18 +268,18 @@ directory_rows (Some p) node = refl
 
 held_entered : (s : State) (pid node : ℕ) → IsHeld s → IsHeld (with_process s pid (replace_directory (at s.processes pid) node))
 held_entered s pid node h = record {
-    rows = λ q k r e. h.rows q k r (ap (λ (l : List (Option Row)). at l k) (sym (same q)) ∙ e);
-    files = λ number there. (let has = held_row s number (h.files number there) in row_held after number (record {
-      pid = has.pid;
-      fd = has.fd;
-      row = has.row;
-      there = ap (λ (l : List (Option Row)). at l has.fd) (same has.pid) ∙ has.there;
-      of = has.of;
-    }));
-    objects = λ number file e. there_with s after refl file.object (h.objects number file e);
-    names = h.names;
-    nodes = h.nodes;
-  } where
+  rows = λ q k r e. h.rows q k r (ap (λ (l : List (Option Row)). at l k) (sym (same q)) ∙ e);
+  files = λ number there. (let has = held_row s number (h.files number there) in row_held after number (record {
+    pid = has.pid;
+    fd = has.fd;
+    row = has.row;
+    there = ap (λ (l : List (Option Row)). at l has.fd) (same has.pid) ∙ has.there;
+    of = has.of;
+  }));
+  objects = λ number file e. there_with s after refl file.object (h.objects number file e);
+  names = h.names;
+  nodes = h.nodes;
+} where
   after : State
   after = with_process s pid (replace_directory (at s.processes pid) node)
 

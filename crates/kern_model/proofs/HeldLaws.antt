@@ -140,21 +140,21 @@ module _ (s : State) (spare : ℕ) (h : IsHeldButFile s spare) where
 
   pub held_let_go : IsHeld (let_go s spare)
   held_let_go = elim (is_held s spare) as (λ b. is_held s spare ≡ b → IsHeld (if b then s else let_go_object without (at s.files spare))) [
-      | true ↦ held_by_test
-      | false ↦ λ test. gone_by test (at s.files spare) refl
-    ] refl
+    | true ↦ held_by_test
+    | false ↦ λ test. gone_by test (at s.files spare) refl
+  ] refl
 
 -- ---- a closed descriptor
 
 held_close_by : (s : State) (pid fd : ℕ) (row : Option Row) → at (rows_of s pid) fd ≡ row → IsHeld s → IsHeld (close_row_by s pid fd row)
 held_close_by s pid fd None e h = h
 held_close_by s pid fd (Some row) e h = held_let_go after row.file (record {
-    rows = λ q k r f. rows_after q k r (row_cases s pid fd None q k r f);
-    files = λ number ne there. files_after number ne (held_row s number (h.files number there));
-    objects = λ number file f. objects_after file.object (h.objects number file f);
-    names = h.names;
-    nodes = h.nodes;
-  }) where
+  rows = λ q k r f. rows_after q k r (row_cases s pid fd None q k r f);
+  files = λ number ne there. files_after number ne (held_row s number (h.files number there));
+  objects = λ number file f. objects_after file.object (h.objects number file f);
+  names = h.names;
+  nodes = h.nodes;
+}) where
   after : State
   after = with_row s pid fd None
 
@@ -185,12 +185,12 @@ held_close s pid fd h = held_close_by s pid fd (at (rows_of s pid) fd) refl h
 pub held_process : (s : State) (pid : ℕ) (process : Option Process) → ((fd : ℕ) (row : Row) → at (rows_of s pid) fd ≢ Some row)
     → ((fd : ℕ) (row : Row) → at (rows_in process) fd ≡ Some row → IsSome (at s.files row.file)) → IsHeld s → IsHeld (with_process s pid process)
 held_process s pid process quiet rows h = record {
-    rows = all_set (λ (p : Option Process). (fd : ℕ) (row : Row) → at (rows_in p) fd ≡ Some row → IsSome (at s.files row.file)) s.processes pid process rows h.rows;
-    files = λ number there. files_after number (held_row s number (h.files number there));
-    objects = λ number file f. objects_after file.object (h.objects number file f);
-    names = h.names;
-    nodes = h.nodes;
-  } where
+  rows = all_set (λ (p : Option Process). (fd : ℕ) (row : Row) → at (rows_in p) fd ≡ Some row → IsSome (at s.files row.file)) s.processes pid process rows h.rows;
+  files = λ number there. files_after number (held_row s number (h.files number there));
+  objects = λ number file f. objects_after file.object (h.objects number file f);
+  names = h.names;
+  nodes = h.nodes;
+} where
   after : State
   after = with_process s pid process
 

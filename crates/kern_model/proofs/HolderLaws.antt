@@ -37,10 +37,6 @@ set_cases (z ∷ table) (suc n) x (suc q) y h = later (set_cases table n x q y h
   later (inl e) = inl e
   later (inr k) = inr ((λ e. k.0 (omega (arith, e))), k.1)
 
--- what is at a number stays where an unused one is set
-pub set_unused : {X : Type 0} (table : List (Option X)) (n : ℕ) (x : Option X) (q : ℕ) (y : X) → at table n ≡ None → at table q ≡ Some y → at (slice_set table n x) q ≡ Some y
-set_unused table n x q y none some = at_other table n x q (λ e. let k : None ≡ Some y = sym none ∙ ap (λ (m : ℕ). at table m) (sym e) ∙ some in cc) ∙ some
-
 -- what is at a number stays where something is put behind the table
 pub end_stays : {X : Type 0} (table : List (Option X)) (x : Option X) (q : ℕ) (y : X) → at table q ≡ Some y → at (table ++ x ∷ []) q ≡ Some y
 end_stays [] x q y h = absurd cc

@@ -22,7 +22,7 @@ length-put_over : (old : List ℕ) (start : ℕ) (new : List ℕ) → length (pu
 length-put_over old start new =
     let zeros = replicate {A = ℕ} (start - length old) 0 in
     let all : length (put_over old start new) ≡ length (take start (old ++ zeros) ++ new) + length (drop (start + length new) old) =
-        length-append (take start (old ++ zeros) ++ new) (drop (start + length new) old) in
+    length-append (take start (old ++ zeros) ++ new) (drop (start + length new) old) in
     let back = length-append (take start (old ++ zeros)) new in
     let front = length-take start (old ++ zeros) in
     let filled = length-append old zeros in

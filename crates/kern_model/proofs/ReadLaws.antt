@@ -1,6 +1,6 @@
 -- What a read gives of what a write wrote.
 use Rattle.std.specs.Prelude.{nat_le, not, max, min, replicate, IsSome, slice_index, if◌then◌else◌}
-use Rattle.std.proofs.Common.{◌≡◌, ◌≢◌, ℕ, zero, suc, ◌+◌, ◌-◌, ◌<◌, ◌≤◌, ◌==◌, true, false, List, [], ◌∷◌, ◌++◌, length, take, drop, get_or, Option, Some, None, refl, sym, ap, subst, ◌∙◌, arith, length-append, length-take, length-drop}
+use Rattle.std.proofs.Common.{◌≡◌, ℕ, ◌+◌, ◌-◌, ◌<◌, ◌≤◌, ◌==◌, true, false, List, [], ◌∷◌, ◌++◌, length, take, drop, get_or, Option, Some, None, refl, sym, ap, subst, ◌∙◌, arith, length-append, length-take, length-drop}
 use Rattle.std.proofs.lemmas.Bool.{eqb-true}
 use Rattle.std.proofs.lemmas.List.{length-replicate, get_or-take, get_or-drop, get_or_append_left, get_or-append-add}
 use Rattle.sp_base.specs.Needs.{transfer_of}
@@ -17,16 +17,15 @@ use Rattle.kern_model.specs.declared.node.Row.{Row}
 use Rattle.kern_model.specs.declared.operation.Ins.TheVariants.{Given}
 use Rattle.kern_model.specs.declared.operation.Op.TheVariants.{Sys}
 use Rattle.kern_model.specs.declared.outcome.Outcome.{Outcome}
-use Rattle.kern_model.specs.Outcome.{failure}
 use Rattle.kern_model.specs.State.{State, rows_of, replace_file, replace_bytes, with_bytes, bytes_in, bytes_of, is_directory}
 use Rattle.kern_model.specs.Step.{Step, piece_at}
 use Rattle.kern_model.specs.Descriptors.{with_open_file}
-use Rattle.kern_model.specs.Files.{may_read, may_write, is_negative, bytes_from, read_node, read_file, act_read, pread_file, act_pread, file_limit, put_over, is_above_total, fitting, write_node, write_start, write_file, act_write, pwrite_file, act_pwrite}
+use Rattle.kern_model.specs.Files.{may_read, may_write, is_negative, bytes_from, read_node, read_file, pread_file, file_limit, put_over, is_above_total, fitting, write_node, write_start, write_file, pwrite_file}
 use Rattle.kern_model.specs.Act.{act}
 use Rattle.kern_model.specs.FileLaws.{IsOpen, WritesAt, ReadsAt, given_bytes, IsByte}
 use Rattle.kern_model.proofs.Errors.{no_error_is_zero}
 use Rattle.kern_model.proofs.HolderLaws.{there_below}
-use Rattle.kern_model.proofs.Holds.{Holds, HoldsOfErrors, holds_is, holds_failed, holds_answered, holds_wrote, holds_if, holds_fail_if, holds_or_fail}
+use Rattle.kern_model.proofs.Holds.{Holds, HoldsOfErrors, holds_is, holds_answered, holds_wrote, holds_if, holds_fail_if, holds_or_fail}
 
 -- a fact of every success
 abbrev OnSuccess : (Outcome → State → Type 0) → Outcome → State → Type 0
@@ -145,9 +144,9 @@ no_bytes (b ∷ bytes) e = absurd (omega (arith, e))
 
 piece_bytes : (addr : ℕ) (bytes : List ℕ) → given_bytes (piece_at addr bytes) ≡ bytes
 piece_bytes addr bytes = elim (length bytes == 0) as (λ b. (length bytes == 0) ≡ b → given_bytes (if b then [] else record { addr = addr; bytes = bytes } ∷ []) ≡ bytes) [
-    | true ↦ λ t. no_bytes bytes (eqb-true (length bytes) 0 t)
-    | false ↦ λ t. refl
-  ] refl
+  | true ↦ λ t. no_bytes bytes (eqb-true (length bytes) 0 t)
+  | false ↦ λ t. refl
+] refl
 
 gave_node : (s : State) (node : ℕ) (file : OpenFile) (offset addr len : ℕ) (after : ℕ → State) → Holds Unit (OnSuccess (Gave (bytes_from s node offset len))) (read_node s node file offset addr len after)
 gave_node s node file offset addr len after =

@@ -50,9 +50,9 @@ idle_path s path node spare h pid same =
     let is : directory_of s pid ≡ node = same_node s.names path works.path node (directory_of s pid) spare.named works.stands same in
     let directory : is_directory s node ≡ true = subst (λ (n : ℕ). is_directory s n ≡ true) is works.directory in
     by_process (works_in (at s.processes pid) node is) directory where
-  by_process : (is_directory_of node (at s.processes pid) ≡ true) ⊎ (root ≡ node) → is_directory s node ≡ true → ⊥
-  by_process (inl there) directory = true≢false (sym (any_from (is_directory_of node) s.processes pid refl there) ∙ spare.idle directory)
-  by_process (inr top) directory = spare.apart (h.tree.once path [] node spare.named (h.tree.top ∙ ap (λ (n : ℕ). Some n) top) directory)
+      by_process : (is_directory_of node (at s.processes pid) ≡ true) ⊎ (root ≡ node) → is_directory s node ≡ true → ⊥
+      by_process (inl there) directory = true≢false (sym (any_from (is_directory_of node) s.processes pid refl there) ∙ spare.idle directory)
+      by_process (inr top) directory = spare.apart (h.tree.once path [] node spare.named (h.tree.top ∙ ap (λ (n : ℕ). Some n) top) directory)
 
 tree_dropped : (s : State) (path : Path) (node : ℕ) → IsSpare s path node → HasTree s → HasTree (record s { names = remove s.names path })
 tree_dropped s [] node spare h = absurd (spare.apart refl)

@@ -1,6 +1,6 @@
 -- The names are a tree, and what becomes of it where the names stay.
 use Rattle.std.specs.Prelude.{slice_set, nat_lt, if◌then◌else◌}
-use Rattle.std.proofs.Common.{◌≡◌, ℕ, zero, suc, ◌≤◌, Bool, true, false, ◌||◌, List, [], ◌∷◌, ◌++◌, length, Option, Some, None, refl, sym, ap, ◌∙◌, arith, length-append}
+use Rattle.std.proofs.Common.{◌≡◌, ℕ, ◌≤◌, Bool, true, false, ◌||◌, List, [], ◌∷◌, ◌++◌, length, Option, Some, None, refl, sym, ap, ◌∙◌, arith, length-append}
 use Rattle.std.proofs.lemmas.List.{length-set, get_or_append_left}
 use Rattle.std.proofs.lemmas.Bool.{true≢false}
 use Rattle.std.specs.List.{list_any}
@@ -12,7 +12,7 @@ use Rattle.kern_model.specs.declared.node.OpenFile.{OpenFile}
 use Rattle.kern_model.specs.declared.node.Row.{Row}
 use Rattle.sp_base.specs.Table.{at}
 use Rattle.kern_model.specs.Name.{Path, Names, name_count}
-use Rattle.kern_model.specs.State.{State, Process, root, directory_in, directory_of, rows_of, with_process, with_row, replace_rows, kind_in, is_directory_kind, replace_bytes, with_bytes, with_node, is_of_node, without_unused, is_held, let_go_of, let_go_object, let_go, close_row_by, close_row, close_rows}
+use Rattle.kern_model.specs.State.{State, Process, root, directory_in, directory_of, rows_of, with_process, with_row, replace_rows, kind_in, is_directory_kind, replace_bytes, with_bytes, with_node, is_of_node, without_unused, is_held, let_go_of, let_go_object, let_go, close_row_by, close_row}
 use Rattle.kern_model.specs.NameLaws.{HasParents}
 use Rattle.kern_model.specs.Sound.{IsPlace, IsNamedDirectory, HasTree}
 use Rattle.sp_base.proofs.TableLaws.{at_other, all_set, seen_same}
@@ -129,7 +129,7 @@ tree_object : (s : State) (file : Option OpenFile) → HasTree s → HasTree (le
 tree_object s None h = h
 tree_object s (Some file) h = tree_of s file.object h
 
-pub tree_if : (b : Bool) (s t : State) → HasTree s → HasTree t → HasTree (if b then s else t)
+tree_if : (b : Bool) (s t : State) → HasTree s → HasTree t → HasTree (if b then s else t)
 tree_if true s t h k = h
 tree_if false s t h k = k
 
@@ -144,10 +144,3 @@ tree_close_by s pid fd (Some row) h = tree_let_go (with_row s pid fd None) row.f
 
 pub tree_close : (s : State) (pid fd : ℕ) → HasTree s → HasTree (close_row s pid fd)
 tree_close s pid fd h = tree_close_by s pid fd (at (rows_of s pid) fd) h
-
-pub tree_close_rows : (marked : Bool) (s : State) (pid fd : ℕ) → HasTree s → HasTree (close_rows marked s pid fd)
-tree_close_rows marked s pid zero h = h
-tree_close_rows marked s pid (suc fd) h =
-    let before = close_rows marked s pid fd in
-    let k = tree_close_rows marked s pid fd h in
-    tree_if _ (close_row before pid fd) before (tree_close before pid fd k) k

@@ -73,11 +73,3 @@ is_built call.Getpid = true
 is_built (call.Close fd) = true
 is_built (call.Unknown num words) = true
 is_built _ = false
-
--- the operations that the server takes by now
-abbrev pub is_built_op : Op → Bool
-is_built_op (Sys call) = is_built call
-is_built_op Attach = true
-is_built_op Exit = true
-is_built_op Fork = false
-is_built_op Exec = false

@@ -7,7 +7,6 @@ use Rattle.sp_base.specs.declared.limits.TheConstants.{DESCRIPTORS, FIRST_PROCES
 use Rattle.sp_base.specs.declared.errno.Errno.{Errno}
 use Rattle.sp_base.specs.declared.errno.Errno.TheVariants.{Eagain}
 use Rattle.kern_model.specs.declared.journal.Entry.{Entry}
-
 use Rattle.kern_model.specs.declared.node.Row.{Row}
 use Rattle.kern_model.specs.declared.operation.Op.{Op}
 use Rattle.kern_model.specs.declared.operation.Op.TheVariants.{Sys, Attach, Fork, Exec, Exit}
@@ -61,6 +60,7 @@ OthersStay = (s : State) (pid : ℕ) (op : Op) (ins : Ins) (outcome : Outcome) (
 abbrev pub CallsKeepWhoIsLive : Type 0
 CallsKeepWhoIsLive = (s : State) (pid : ℕ) (call : Call) (ins : Ins) (outcome : Outcome) (t : State) (other : ℕ)
     → Gives s pid (Sys call) ins outcome t → is_some (at t.processes other) ≡ is_some (at s.processes other)
+
 abbrev pub ExecsKeepWhoIsLive : Type 0
 ExecsKeepWhoIsLive = (s : State) (pid : ℕ) (ins : Ins) (outcome : Outcome) (t : State) (other : ℕ)
     → Gives s pid Exec ins outcome t → is_some (at t.processes other) ≡ is_some (at s.processes other)
@@ -112,9 +112,11 @@ pub record Shares (s t : State) : Type 0 where
 abbrev pub ExecsCloseMarkedRows : Type 0
 ExecsCloseMarkedRows = (s : State) (pid : ℕ) (pieces : List (List ℕ)) (outcome : Outcome) (t : State) (fd : ℕ)
     → Gives s pid Exec (Given pieces) outcome t → length (rows_of s pid) ≡ DESCRIPTORS → at (rows_of t pid) fd ≡ kept_row (at (rows_of s pid) fd)
+
 abbrev pub ExecsKeepTheDirectory : Type 0
 ExecsKeepTheDirectory = (s : State) (pid : ℕ) (pieces : List (List ℕ)) (outcome : Outcome) (t : State)
     → Gives s pid Exec (Given pieces) outcome t → directory_of t pid ≡ directory_of s pid
+
 abbrev pub ExecsShare : Type 0
 ExecsShare = (s : State) (pid : ℕ) (pieces : List (List ℕ)) (outcome : Outcome) (t : State)
     → Gives s pid Exec (Given pieces) outcome t → Shares s t
@@ -123,6 +125,7 @@ ExecsShare = (s : State) (pid : ℕ) (pieces : List (List ℕ)) (outcome : Outco
 abbrev pub ExitsEnd : Type 0
 ExitsEnd = (s : State) (pid : ℕ) (pieces : List (List ℕ)) (outcome : Outcome) (t : State)
     → Gives s pid Exit (Given pieces) outcome t → (at t.processes pid ≡ None) × (rows_of t pid ≡ [])
+
 abbrev pub ExitsShare : Type 0
 ExitsShare = (s : State) (pid : ℕ) (pieces : List (List ℕ)) (outcome : Outcome) (t : State)
     → Gives s pid Exit (Given pieces) outcome t → Shares s t

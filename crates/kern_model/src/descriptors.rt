@@ -4,8 +4,7 @@ ghost use Rattle.sp_base.specs.Table.{at, lowest_unused};
 ghost use Rattle.kern_model.specs.State.{Process, fresh_process, is_row_of};
 
 use crate::node::Row;
-use sp_base::table;
-use sp_base::{DESCRIPTORS, NoMemory};
+use sp_base::{DESCRIPTORS, NoMemory, table};
 use std::alloc::Global;
 use std::marker::Model;
 

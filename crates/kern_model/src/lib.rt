@@ -19,12 +19,12 @@ pub use journal::{Entry, Who};
 pub use laws::{
     attach_takes_the_lowest_number, calls_keep_who_is_live, error_gives_nothing,
     exec_closes_marked_rows, exit_ends_the_process, fault_leaves_the_state, fork_copies_the_parent,
-    legal_journals_replay, others_stay, reads_give_what_was_written,
-    rename_moves_the_tree, states_stay_sound,
+    legal_journals_replay, others_stay, reads_give_what_was_written, rename_moves_the_tree,
+    states_stay_sound,
 };
 pub use name_map::{Name, NameMap};
 pub use node::{Access, Node, NodeKind, Object, OpenFile, Path, Row};
-pub use operation::{Ins, Op, Pieces, is_built};
+pub use operation::{Ins, Op, Pieces};
 pub use outcome::{OutPiece, Outcome, Outs};
 pub use plain::Plain;
 pub use walk::Walked;

@@ -1,6 +1,3 @@
-ghost use Rattle.std.specs.Prelude.{◌≡◌};
-ghost use Rattle.kern_model.specs.Act.{is_built};
-
 use sp_base::{Call, Errno, Items, Octets};
 
 /// What a process asks of the kernel.
@@ -28,14 +25,4 @@ pub enum Ins {
     Given(Pieces),
     /// The error of the first range that could not be read.
     Fault(Errno),
-}
-
-/// Whether the server takes the call by now; a call outside the table is always known, as one that fails.
-pub fn is_built(call: &Call) -> bool
-    ensures { result ≡ is_built call.now }
-{
-    matches!(
-        call,
-        Call::Getpid | Call::Close { .. } | Call::Unknown { .. }
-    )
 }

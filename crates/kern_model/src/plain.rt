@@ -23,8 +23,7 @@ use crate::descriptors::Descriptors;
 use crate::name_map::NameMap;
 use crate::node::{Node, NodeKind, Object, OpenFile, Row};
 use crate::outcome::Outcome;
-use sp_base::table;
-use sp_base::{Errno, FIRST_PROCESS, PROCESSES, Items, NoMemory, Octets, Pid};
+use sp_base::{Errno, FIRST_PROCESS, Items, NoMemory, Octets, PROCESSES, Pid, table};
 use std::alloc::Global;
 use std::marker::Model;
 

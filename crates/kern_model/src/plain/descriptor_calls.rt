@@ -6,8 +6,7 @@ ghost use Rattle.kern_model.specs.Descriptors.{act_close, act_dup, act_dup2, act
 use super::Plain;
 use crate::node::{Access, OpenFile, Row};
 use crate::outcome::Outcome;
-use sp_base::table;
-use sp_base::{DESCRIPTORS, Errno, Pid};
+use sp_base::{DESCRIPTORS, Errno, Pid, table};
 
 /// Whether a bit of a word is set.
 pub(crate) fn has_bit(word: u64, bit: u64) -> bool

@@ -9,9 +9,8 @@ use super::Plain;
 use super::descriptor_calls::has_bit;
 use crate::node::{Access, Node, NodeKind, Object, OpenFile, Path, Row};
 use crate::outcome::Outcome;
-use sp_base::table;
 use crate::walk::Walked;
-use sp_base::{Errno, NoMemory, Octets, Pid};
+use sp_base::{Errno, NoMemory, Octets, Pid, table};
 
 /// The access that open's flags ask for, none for 3.
 fn access_of(flags: u64) -> Option<Access>

@@ -5,8 +5,7 @@ ghost use Rattle.kern_model.specs.Descriptors.{act_attach, act_fork, act_exec, a
 use super::{Plain, close_rows};
 use crate::descriptors::Descriptors;
 use crate::outcome::Outcome;
-use sp_base::table;
-use sp_base::{DESCRIPTORS, Errno, FIRST_PROCESS, NoMemory, Pid};
+use sp_base::{DESCRIPTORS, Errno, FIRST_PROCESS, NoMemory, Pid, table};
 
 impl Plain {
     /// A new process in the root directory. Want of memory leaves the state as it was.
