@@ -6,14 +6,14 @@ use Rattle.sp_server.specs.declared.session.Session.{Session}
 use Rattle.sp_server.specs.Serving.{after}
 use Rattle.sp_server.specs.Stdio.{connection}
 use Rattle.sp_server.proofs.Rounds.{plays_is}
-use Rattle.sp_server.proofs.SessionLaws.{at_begin, cut_at_start, always_err}
+use Rattle.sp_server.proofs.SessionLaws.{at_begin, part_at_start, always_err}
 use Rattle.sp_server.proofs.session.Session.begin.Goals as goal
 
 pub returns-in_err-hub-clause-err : goal.returns-in_err-hub-clause-err
-returns-in_err-hub-clause-err g c = always_err c.from_residual.result (cut_at_start c.fresh-framer.result (g.O.Sink.held c.args.sink.now) c.fresh-framer.ensures.follows)
+returns-in_err-hub-clause-err g c = always_err c.from_residual.result (part_at_start c.fresh-framer.result (g.O.Sink.held c.args.sink.now) c.fresh-framer.ensures.follows)
 
 pub returns-in_err-happened-clause-err : goal.returns-in_err-happened-clause-err
-returns-in_err-happened-clause-err g c = always_err c.from_residual-in_err-happened.result (cut_at_start c.fresh-framer.result (g.O.Sink.held c.args.sink.now) c.fresh-framer.ensures.follows)
+returns-in_err-happened-clause-err g c = always_err c.from_residual-in_err-happened.result (part_at_start c.fresh-framer.result (g.O.Sink.held c.args.sink.now) c.fresh-framer.ensures.follows)
 
 pub returns-clause-ok : goal.returns-clause-ok
 returns-clause-ok g c =

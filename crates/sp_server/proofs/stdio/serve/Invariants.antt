@@ -2,7 +2,7 @@ use Rattle.std.proofs.Common.{◌≡◌, ◌-◌, ◌≤◌, false, List, ℕ, N
 use Rattle.std.specs.Io.KnownBytes.{Appends, Consumes}
 use Rattle.sp_server.specs.Stdio.{most_input}
 use Rattle.sp_server.specs.Session.{IsAt}
-use Rattle.sp_server.proofs.stdio.serve_stdio.Given as goal
+use Rattle.sp_server.proofs.stdio.serve.Given as goal
 
 abbrev pub invariant-loop-piece : goal.invariant-loop-piece
 invariant-loop-piece g l =
@@ -12,7 +12,6 @@ invariant-loop-piece g l =
       so : (taken : List ℕ) × (text : List ℕ) × IsAt l.session None taken text
           × Consumes (i.left l.fn.source) (i.left l.source) taken × Appends (i.passed l.fn.source) (i.passed l.source) taken
           × Appends (o.held l.fn.sink) (o.held l.sink) text;
-      salt : l.salt ≡ l.fn.salt;
       sourced : i.faults l.fn.source ≤ i.faults l.source;
       sunk : o.faults l.fn.sink ≤ o.faults l.sink;
       unread : i.is_done l.source ≡ false;
