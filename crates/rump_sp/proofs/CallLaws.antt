@@ -20,7 +20,7 @@ use Rattle.sp_hub.specs.declared.event.Event.TheVariants as event
 use Rattle.sp_hub.specs.declared.event.Reply.{Reply}
 use Rattle.sp_hub.specs.declared.event.Reply.TheVariants as reply
 use Rattle.rump_sp.specs.Run.{guest_connection, request_key, guest_entry, process_of, attach_entry}
-use Rattle.rump_sp.specs.Guest.{request_frame, resting, at_rest, IsAt, IsReady, IsAttached, IsCalled, HasAnswer}
+use Rattle.rump_sp.specs.Guest.{request_frame, resting, at_rest, IsResting, IsReady, IsAttached, IsCalled, HasAnswer}
 use Rattle.rump_sp.proofs.MachineLaws.{holding, asking, asked_is, worked_is, answer_is, has_answer}
 
 -- the process that a handshake's response names is the one that the attach gave
@@ -66,7 +66,7 @@ says m m1 m2 m3 r q g n call a said out =
     (d.0, ap (λ (f : Frame). f.body) t.0, t.1)
 
 -- a machine at rest has one guest
-same_guest : (m : Machine) (a b : Pid) (i j : ℕ) → IsAt m a i → IsAt m b j → a ≡ b
+same_guest : (m : Machine) (a b : Pid) (i j : ℕ) → IsResting m a i → IsResting m b j → a ≡ b
 same_guest m a b i j p q = live_is a b i j (ap (λ (x : Machine). x.connections) (sym p ∙ q))
   where
     live_is : (a b : Pid) (i j : ℕ) → resting a i ∷ [] ≡ resting b j ∷ [] → a ≡ b
@@ -77,7 +77,7 @@ same_guest m a b i j p q = live_is a b i j (ap (λ (x : Machine). x.connections)
 
 -- the call is performed and answered
 pub called : (m m1 m2 m3 : Machine) (r q : Reply) (g : Frame) (answer : Answer) (n : ℕ) (call : Call) (a : IsAsked m m1 r n call) → (q, m2) ≡ played m1 (event.Work guest_connection (record { 0 = n }))
-    → (reply.Out g, m3) ≡ played m2 (event.Take guest_connection) → g.body ≡ body.Answered answer → (pid : Pid) (last : ℕ) → IsAt m pid last → IsCalled m pid n call answer m3
+    → (reply.Out g, m3) ≡ played m2 (event.Take guest_connection) → g.body ≡ body.Answered answer → (pid : Pid) (last : ℕ) → IsResting m pid last → IsCalled m pid n call answer m3
 called m m1 m2 m3 r q g answer n call a said out is pid last at =
     let s = says m m1 m2 m3 r q g n call a said out in
     let same : a.ready.pid ≡ pid = same_guest m a.ready.pid pid a.ready.last last a.ready.at at in

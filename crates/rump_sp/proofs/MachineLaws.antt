@@ -31,7 +31,7 @@ use Rattle.sp_hub.specs.declared.event.Reply.TheVariants as reply
 use Rattle.sp_hub.specs.declared.verdict.Verdict.{Verdict}
 use Rattle.sp_hub.specs.declared.verdict.Verdict.TheVariants as verdict
 use Rattle.rump_sp.specs.Run.{guest_connection, request_key, guest_entry, attach_entry}
-use Rattle.rump_sp.specs.Guest.{request_frame, resting, at_rest, IsAt, HasAnswer, HasEnded}
+use Rattle.rump_sp.specs.Guest.{request_frame, resting, at_rest, IsResting, HasAnswer, HasEnded}
 
 -- the guest is connected, and nothing else
 abbrev pub connected : Machine
@@ -50,7 +50,7 @@ abbrev pub guest_frame : List ℕ → Frame
 guest_frame name = record { number = record { 0 = 1 }; body = body.Guest name }
 
 -- a machine at rest is at rest with its own journal
-pub rests : (m : Machine) (journal : List Entry) (pid : Pid) (last : ℕ) → m ≡ at_rest journal pid last → IsAt m pid last
+pub rests : (m : Machine) (journal : List Entry) (pid : Pid) (last : ℕ) → m ≡ at_rest journal pid last → IsResting m pid last
 rests m journal pid last e = e ∙ ap (λ (j : List Entry). at_rest j pid last) (sym (ap (λ (x : Machine). x.journal) e))
 
 -- the connection opens
@@ -104,7 +104,7 @@ opens s pid last n (Close fd) proper built below = picked (nat_le n last) _ _ (n
 opens s pid last n (Unknown num words) proper built below = rw (proper, new_number last n below) refl
 opens s pid last n _ proper built below = absurd cc
 
-pub asked_is : (m m' : Machine) (r : Reply) (pid : Pid) (last n : ℕ) (call : Call) → IsProper call → IsTrue (is_built call) → last < n → IsAt m pid last
+pub asked_is : (m m' : Machine) (r : Reply) (pid : Pid) (last n : ℕ) (call : Call) → IsProper call → IsTrue (is_built call) → last < n → IsResting m pid last
     → (r, m') ≡ played m (event.Frame guest_connection (request_frame n call) 0) → (r ≡ reply.Task (record { 0 = n })) × (m' ≡ asking m.journal pid n call)
 asked_is m m' r pid last n call proper built below at said =
     let open_call = ap (λ (v : Verdict). after_step (at_rest m.journal pid last) 0 (frame_step_by v m.journal (resting pid last) (request_frame n call))) (opens (state_after m.journal) pid last n call proper built below) in
@@ -136,7 +136,7 @@ worked_is m m' r journal pid n call built open_call said =
     (a.0, ap (λ (p : Played). p.0) e, ap (λ (p : Played). p.1) e)
 
 -- the connection ends, and the process exits
-pub ended_is : (m m' : Machine) (r : Reply) (pid : Pid) (last : ℕ) → IsAt m pid last → (r, m') ≡ played m (event.Ended guest_connection Clean) → (r ≡ reply.Nothing) × HasEnded m pid m'
+pub ended_is : (m m' : Machine) (r : Reply) (pid : Pid) (last : ℕ) → IsResting m pid last → (r, m') ≡ played m (event.Ended guest_connection Clean) → (r ≡ reply.Nothing) × HasEnded m pid m'
 ended_is m m' r pid last at said =
     let e = said ∙ ap (λ (x : Machine). played x (event.Ended guest_connection Clean)) at in
     (ap (λ (p : Played). p.0) e, (success 0, ap (λ (p : Played). p.1.journal) e))

@@ -3,7 +3,7 @@ use Rattle.rump_sp.proofs.CallLaws.{attached}
 use Rattle.rump_sp.proofs.MachineLaws.{opened_is, attached_is, answer_is, has_answer}
 use Rattle.sp_frames.specs.declared.frame.Frame.{Frame}
 use Rattle.rump_sp.proofs.NameLaws.{guest_fits}
-use Rattle.rump_sp.proofs.bench.Bench.attach.Goals as goal
+use Rattle.rump_sp.proofs.runner.Runner.attach.Goals as goal
 
 pub unreachable-requires : goal.unreachable-requires
 unreachable-requires c = c.in_default.not-Nothing (opened_is _ _ _ c.requires.fresh c.in_ok-play.ensures).0

@@ -1,5 +1,5 @@
 use Rattle.rump_sp.proofs.CallLaws.{asked_by, task, done, waits, says, called}
-use Rattle.rump_sp.proofs.bench.Bench.call.Goals as goal
+use Rattle.rump_sp.proofs.runner.Runner.call.Goals as goal
 
 pub unreachable-requires : goal.unreachable-requires
 unreachable-requires c =
