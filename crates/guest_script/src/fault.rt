@@ -3,15 +3,19 @@ ghost use Rattle.std.specs.Prelude.{◌≡◌};
 ghost use Rattle.guest_script.specs.Script.{too_long, not_read, out_of_memory};
 
 use sp_base::NoMemory;
+use thiserror::Error;
 
 /// What is wrong with a script.
-#[derive(Clone, Copy, Debug, PartialEq, Eq)]
+#[derive(Clone, Copy, Debug, PartialEq, Eq, Error)]
 pub enum ScriptKind {
     /// The text has more bytes, lines or guests than are read.
+    #[error("script too long")]
     TooLong,
     /// The line is none of those that are read by now.
+    #[error("not read yet")]
     NotReadYet,
     /// Memory was refused to the reader. This says nothing of the text.
+    #[error("out of memory")]
     NoMemory,
 }
 

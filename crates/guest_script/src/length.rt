@@ -4,8 +4,8 @@ ghost use Rattle.guest_script.specs.Script.{lines_of, words_of, is_ended, line_c
 
 use crate::pieces::{first_filled, split_first};
 
-/// The most bytes: 16 MiB.
-const MOST_BYTES: usize = 16_777_216;
+/// The most bytes of a script: 16 MiB.
+pub const MOST_BYTES: usize = 16_777_216;
 
 /// The most lines.
 const MOST_LINES: usize = 100_000;

@@ -2,6 +2,7 @@
 #![tactic(auto)]
 
 mod fault;
+mod laws;
 mod length;
 mod pieces;
 mod row;
@@ -9,6 +10,8 @@ mod script;
 mod words;
 
 pub use fault::{ScriptFault, ScriptKind};
+pub use laws::script_says_its_text;
+pub use length::MOST_BYTES;
 pub use row::put_row;
 pub use script::{Line, Script, Section};
 

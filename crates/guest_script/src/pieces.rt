@@ -1,9 +1,6 @@
 //! Bytes in pieces: the lines of a text, the words of a line.
-ghost use Rattle.std.specs.Prelude.{◌≡◌, ◌<◌, ℕ, [], ◌∷◌, ◌+◌, ◌==◌, length, take, drop, map, position, IfSome, IfNone, IfOk};
+ghost use Rattle.std.specs.Prelude.{◌≡◌, ◌<◌, ℕ, [], ◌∷◌, ◌+◌, ◌==◌, length, take, drop, position, IfSome, IfNone};
 ghost use Rattle.guest_script.specs.Pieces.{pieces_of, first_filled};
-
-use sp_base::NoMemory;
-use std::alloc::Global;
 
 /// The first place of the separator.
 fn separator_at(bytes: &[u8], separator: u8) -> Option<usize>
@@ -17,9 +14,11 @@ fn separator_at(bytes: &[u8], separator: u8) -> Option<usize>
 fn first_end(bytes: &[u8], separator: u8) -> Option<usize>
     ensures last { IfNone result (pieces_of separator bytes.now ≡ bytes.now ∷ []) }
     ensures within { IfSome result (λ i. i < length bytes.now) }
-    ensures first { IfSome result (λ i. pieces_of separator bytes.now ≡ take i bytes.now ∷ pieces_of separator (drop (i + 1) bytes.now)) }
+    ensures first { IfSome result (λ i. pieces_of separator bytes.now
+        ≡ take i bytes.now ∷ pieces_of separator (drop (i + 1) bytes.now)) }
     ensures more { IfSome result (λ i. 0 < length (pieces_of separator (drop (i + 1) bytes.now))) }
 {
+    // The arms stand apart, since each has its own proof.
     match separator_at(bytes, separator) {
         Some(i) => Some(i),
         None => None,
@@ -29,7 +28,8 @@ fn first_end(bytes: &[u8], separator: u8) -> Option<usize>
 /// The first piece and what stands behind its separator; None where no separator is left.
 pub fn split_first(bytes: &[u8], separator: u8) -> Option<(&[u8], &[u8])>
     ensures last { IfNone result (pieces_of separator bytes.now ≡ bytes.now ∷ []) }
-    ensures first { IfSome result (λ parts. pieces_of separator bytes.now ≡ parts.0.now ∷ pieces_of separator parts.1.now) }
+    ensures first { IfSome result (λ parts.
+        pieces_of separator bytes.now ≡ parts.0.now ∷ pieces_of separator parts.1.now) }
     ensures more { IfSome result (λ parts. 0 < length (pieces_of separator parts.1.now)) }
     ensures shorter { IfSome result (λ parts. length parts.1.now < length bytes.now) }
 {
@@ -41,20 +41,6 @@ pub fn split_first(bytes: &[u8], separator: u8) -> Option<(&[u8], &[u8])>
         }
         None => None,
     }
-}
-
-/// All pieces, in order.
-pub fn pieces(alloc: Global, bytes: &[u8], separator: u8) -> Result<Vec<&[u8]>, NoMemory>
-    ensures { IfOk result (λ pieces. map (λ piece. piece.now) pieces.items ≡ pieces_of separator bytes.now) }
-{
-    let mut pieces = Vec::new(alloc);
-    let mut rest = bytes;
-    while let Some((piece, after)) = split_first(rest, separator) {
-        pieces.push(piece)?;
-        rest = after;
-    }
-    pieces.push(rest)?;
-    Ok(pieces)
 }
 
 /// The first piece that isn't empty; the empty one where each is.

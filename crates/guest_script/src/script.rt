@@ -7,7 +7,7 @@ ghost use Rattle.guest_script.specs.Script.{lines_of, words_of, said, guest_name
 
 use crate::fault::ScriptFault;
 use crate::length::is_too_long;
-use crate::pieces::{pieces, split_first};
+use crate::pieces::split_first;
 use crate::words::{guest_name, line_call};
 use sp_base::{Call, Items, Octets};
 use std::alloc::Global;
@@ -37,26 +37,22 @@ pub struct Script {
     pub sections: Items<Section>,
 }
 
-fn call_of(alloc: Global, at: u32, text: &[u8]) -> Result<Call, ScriptFault>
-    ensures ok { IfOk result (λ call. said at (line_call (words_of text.now)) ≡ Ok call) }
-    ensures err { IfErr result (λ e. (e ≡ out_of_memory) ⊎ (said at (line_call (words_of text.now)) ≡ Err e)) }
-    ensures askable { IfOk result (λ call. IsAskable (record { text = text.now; at = at; call = call })) }
+fn call_of(at: u32, text: &[u8]) -> Result<Call, ScriptFault>
+    ensures call { result ≡ said at (line_call (words_of text.now)) }
+    ensures askable { IfOk result (λ call.
+        IsAskable (record { text = text.now; at = at; call = call })) }
 {
-    let words = pieces(alloc, text, b' ')?;
-    match line_call(words.as_slice()) {
-        Some(call) => Ok(call),
-        None => Err(ScriptFault::not_read(at)),
-    }
+    line_call(text).ok_or(ScriptFault::not_read(at))
 }
 
 /// The name of the guest whose section the first line begins.
 fn name_of(alloc: Global, text: &[u8]) -> Result<Octets, ScriptFault>
     ensures ok { IfOk result (λ name. said 1 (guest_name (words_of text.now)) ≡ Ok name) }
-    ensures err { IfErr result (λ e. (e ≡ out_of_memory) ⊎ (said 1 (guest_name (words_of text.now)) ≡ Err e)) }
+    ensures err { IfErr result (λ e.
+        (e ≡ out_of_memory) ⊎ (said 1 (guest_name (words_of text.now)) ≡ Err e)) }
     ensures named { IfOk result (λ name. IsTrue (is_name name)) }
 {
-    let words = pieces(alloc, text, b' ')?;
-    match guest_name(words.as_slice()) {
+    match guest_name(text) {
         Some(name) => Ok(Octets::of(alloc, name)?),
         None => Err(ScriptFault::not_read(1)),
     }
@@ -76,15 +72,16 @@ fn end(at: u32, rest: &[u8]) -> Result<(), ScriptFault>
 /// The lines of a section, the first of which has the number 2.
 fn read_lines(alloc: Global, text: &[u8]) -> Result<Items<Line>, ScriptFault>
     requires { length text.now ≤ 2 ^ 24 }
-    ensures ok { IfOk result (λ lines. lines_from [] 2 (lines_of text.now) ≡ Ok lines) }
-    ensures err { IfErr result (λ e. (e ≡ out_of_memory) ⊎ (lines_from [] 2 (lines_of text.now) ≡ Err e)) }
+    ensures ok { IfOk result (λ lines. lines_from 2 (lines_of text.now) ≡ Ok lines) }
+    ensures err { IfErr result (λ e.
+        (e ≡ out_of_memory) ⊎ (lines_from 2 (lines_of text.now) ≡ Err e)) }
     ensures askable { IfOk result (AllByRecursion IsAskable) }
 {
     let mut lines = Items::none(alloc);
     let mut rest = text;
     let mut at: u32 = 2;
     while let Some((line, after)) = split_first(rest, b'\n') {
-        let call = call_of(alloc, at, line)?;
+        let call = call_of(at, line)?;
         let text = Octets::of(alloc, line)?;
         lines.push(Line { text, at, call })?;
         rest = after;
@@ -97,8 +94,12 @@ fn read_lines(alloc: Global, text: &[u8]) -> Result<Items<Line>, ScriptFault>
 /// The section that the first line begins.
 fn read_section(alloc: Global, first: &[u8], rest: &[u8]) -> Result<Section, ScriptFault>
     requires { length rest.now ≤ 2 ^ 24 }
-    ensures ok { IfOk result (λ section. and_then (said 1 (guest_name (words_of first.now))) (section_from (lines_of rest.now)) ≡ Ok (section ∷ [])) }
-    ensures err { IfErr result (λ e. (e ≡ out_of_memory) ⊎ (and_then (said 1 (guest_name (words_of first.now))) (section_from (lines_of rest.now)) ≡ Err e)) }
+    ensures ok { let name = said 1 (guest_name (words_of first.now)) in
+        IfOk result (λ section.
+            and_then name (section_from (lines_of rest.now)) ≡ Ok (section ∷ [])) }
+    ensures err { let name = said 1 (guest_name (words_of first.now)) in
+        IfErr result (λ e. (e ≡ out_of_memory)
+            ⊎ (and_then name (section_from (lines_of rest.now)) ≡ Err e)) }
     ensures runnable { IfOk result IsRunnable }
 {
     let name = name_of(alloc, first)?;
@@ -109,7 +110,8 @@ fn read_section(alloc: Global, first: &[u8], rest: &[u8]) -> Result<Section, Scr
 fn read_sections(alloc: Global, text: &[u8]) -> Result<Items<Section>, ScriptFault>
     requires { length text.now ≤ 2 ^ 24 }
     ensures ok { IfOk result (λ sections. sections_of (lines_of text.now) ≡ Ok sections) }
-    ensures err { IfErr result (λ e. (e ≡ out_of_memory) ⊎ (sections_of (lines_of text.now) ≡ Err e)) }
+    ensures err { IfErr result (λ e.
+        (e ≡ out_of_memory) ⊎ (sections_of (lines_of text.now) ≡ Err e)) }
     ensures few { IfOk result (λ sections. length sections ≤ 1) }
     ensures runnable { IfOk result (AllByRecursion IsRunnable) }
 {

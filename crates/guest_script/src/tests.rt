@@ -1,5 +1,5 @@
 // What the rules of scripts and rows say, and that reading and printing succeed where memory is ample.
-use crate::{Script, put_row};
+use crate::{Script, ScriptKind, put_row};
 use sp_base::{Answer, NoMemory, Octets, Place};
 use std::alloc::Global;
 use std::test::Fail;
@@ -152,6 +152,20 @@ fn rows(rt: HostRuntime) -> Result<(), Fail> {
         let got = str::from_utf8(out.slice())?;
         let want = format!(in rt.alloc(); "\n{want}")?;
         assert_eq!(rt; got, want.as_str());
+    }
+    Ok(())
+}
+
+#[test]
+fn kinds_as_text(rt: HostRuntime) -> Result<(), Fail> {
+    let rows = [
+        (ScriptKind::TooLong, "script too long"),
+        (ScriptKind::NotReadYet, "not read yet"),
+        (ScriptKind::NoMemory, "out of memory"),
+    ];
+    for (kind, text) in rows {
+        let shown = format!(in rt.alloc(); "{kind}")?;
+        assert_eq!(rt; shown.as_str(), text);
     }
     Ok(())
 }

@@ -84,6 +84,14 @@ impl Descriptors {
         })
     }
 
+    /// The rows by descriptor.
+    pub fn rows(&self) -> &[Option<Row>]
+        ensures rows { result.now ≡ self.now.rows }
+        ensures length { length result.now ≡ 128 }
+    {
+        &self.rows
+    }
+
     /// The row of a descriptor.
     pub fn row(&self, fd: u64) -> Option<Row>
         ensures { result ≡ at self.now.rows fd }

@@ -16,6 +16,7 @@ mod plain;
 mod tests;
 mod walk;
 
+pub use descriptors::Descriptors;
 pub use journal::{Entry, Who};
 pub use laws::{
     attach_takes_the_lowest_number, calls_keep_who_is_live, error_gives_nothing,

@@ -1,7 +1,7 @@
 -- The fault that is read at the front of bytes is the one that they have.
-use Rattle.std.proofs.Common.{◌≡◌, ◌⊎◌, inl, inr, ℕ, ◌+◌, ◌-◌, ◌^◌, ◌<◌, ◌≤◌, Bool, true, false, cond, ltb, List, ◌++◌, length, take, drop, Option, Some, None, Result, Ok, Err, refl, sym, ap, ◌∙◌, subst, arith, length-append}
+use Rattle.std.proofs.Common.{◌≡◌, ◌⊎◌, inl, inr, ℕ, ◌+◌, ◌-◌, ◌^◌, ◌<◌, ◌≤◌, Bool, true, false, cond, ltb, List, ◌++◌, length, take, drop, Option, Some, None, Result, Ok, Err, refl, sym, ap, ◌∙◌, subst, arith, append_assoc, length-append}
 use Rattle.std.proofs.lemmas.Bool.{ltb-false, ltb-true, le-ltb, lt-ltb}
-use Rattle.std.proofs.lemmas.List.{length-drop}
+use Rattle.std.proofs.lemmas.List.{length-drop, take-append-le}
 use Rattle.sp_frames.specs.declared.fault.FrameFault.{FrameFault}
 use Rattle.sp_frames.specs.declared.fault.FrameFault.TheVariants.{TooShort, TooLong, Class, Kind, Word, Payload, NoMemory}
 use Rattle.sp_frames.specs.declared.frame.Body.{Body}
@@ -17,7 +17,7 @@ use Rattle.sp_frames.proofs.FieldLaws.{IsBytes-drop, IsBytes-take}
 use Rattle.sp_frames.proofs.HeaderLaws.{header_len, header_again, header_back, header_below}
 use Rattle.sp_frames.proofs.TableLaws.{row_is, class_in-most, row_at-above}
 use Rattle.sp_frames.proofs.ReadLaws.{row_for, body_read}
-use Rattle.sp_frames.proofs.RowLaws.{payload-made, size-made, word-made, kind-made, kind-read}
+use Rattle.sp_frames.proofs.RowLaws.{IsBytes-append, payload-made, size-made, word-made, kind-made, kind-read}
 use Rattle.sp_frames.proofs.StepLaws.{behind_header, row_ok, named_is, checked, payload_len}
 
 true_or_false : (b : Bool) → (b ≡ true) ⊎ (b ≡ false)
@@ -260,3 +260,37 @@ step_fault bytes fault all e =
 -- bytes that are less than a frame begin with no fault
 pub partial_none : (bytes : List ℕ) → step_of bytes ≡ Partial → NoFault bytes
 partial_none bytes e fault has = let both : Partial ≡ Fault fault = sym e ∙ fault_step bytes fault has in absurd cc
+
+-- ---- what follows a fault changes nothing
+
+outside_stays : (h : Header) (more behind : List ℕ) → IsOutside h more → IsOutside h (more ++ behind)
+outside_stays h more behind (inl size) = inl size
+outside_stays h more behind (inr content) =
+    let enough : h.len - 24 ≤ length more = content.0 in
+    let same : take (h.len - 24) (more ++ behind) ≡ take (h.len - 24) more = take-append-le (h.len - 24) more behind enough in
+    inr (omega (arith, length-append more behind), subst (λ (p : List ℕ). ¬ HasPayload h.class h.kind h.word p) (sym same) content.1)
+
+is_fault_stays : (h : Header) (more behind : List ℕ) (fault : FrameFault) → IsFaultOf h more fault → IsFaultOf h (more ++ behind) fault
+is_fault_stays h more behind (TooShort len) is = is
+is_fault_stays h more behind (TooLong len) is = is
+is_fault_stays h more behind (Class class) is = is
+is_fault_stays h more behind (Kind kind) is = is
+is_fault_stays h more behind (Word kind word) is = is
+is_fault_stays h more behind (Payload kind len) is = (is.0, is.1, is.2, is.3, outside_stays h more behind is.4)
+is_fault_stays h more behind NoMemory is = is
+
+-- bytes that begin with a fault still do whatever bytes come behind them
+pub has_fault_stays : (bytes behind : List ℕ) (fault : FrameFault) → IsBytes behind → HasFault bytes fault → HasFault (bytes ++ behind) fault
+has_fault_stays bytes behind fault all has =
+    let h = has.0 in
+    let more = has.1 in
+    let begins = has.2 in (
+      h,
+      more ++ behind,
+      record {
+        text = ap (λ (x : List ℕ). x ++ behind) begins.text ∙ append_assoc (header_bytes h) more behind;
+        fits = begins.fits;
+        rest_bytes = IsBytes-append more behind begins.rest_bytes all;
+      },
+      is_fault_stays h more behind fault has.3,
+    )

@@ -1,16 +1,18 @@
 -- A body that is read from a payload is spelled by it.
-use Rattle.std.proofs.Common.{◌≡◌, ℕ, ◌*◌, ◌/◌, ◌^◌, ◌<◌, ◌≤◌, ◌==◌, Bool, true, false, cond, ltb, List, length, drop, Some, None, option_map, refl, sym, subst, arith}
+use Rattle.std.proofs.Common.{◌≡◌, ℕ, ◌*◌, ◌/◌, ◌^◌, ◌<◌, ◌≤◌, ◌==◌, Bool, true, false, cond, ltb, List, length, drop, Option, Some, None, option_map, refl, sym, subst, arith}
 use Rattle.std.specs.List.{list_any}
 use Rattle.std.proofs.lemmas.Bool.{ltb-true}
 use Rattle.std.proofs.lemmas.Bool.Decides.{nat_tests}
 use Rattle.std.proofs.lemmas.List.{length-drop}
+use Rattle.sp_base.specs.Names.{sp_error_of}
+use Rattle.sp_base.specs.declared.names.SpError.{SpError}
 use Rattle.sp_frames.specs.declared.frame.Body.{Body}
 use Rattle.sp_frames.specs.declared.frame.Body.TheVariants as body
 use Rattle.sp_frames.specs.declared.rows.Row.{Row}
 use Rattle.sp_frames.specs.declared.rows.Row.TheVariants as row
 use Rattle.sp_frames.specs.Fields.{IsBytes}
 use Rattle.sp_frames.specs.Grammar.{is_answer, is_text_answer, parts_of, payload_of, BodyFits}
-use Rattle.sp_frames.specs.Reading.{front_at, nth, has_size, front_in, words_at, cookie_from, body_if, error_of, body_at}
+use Rattle.sp_frames.specs.Reading.{front_at, nth, has_size, front_in, words_at, cookie_from, body_if, body_at}
 use Rattle.sp_frames.proofs.FieldLaws.{IsBytes-drop, front_back, front_below, front_whole, no_items}
 use Rattle.sp_frames.proofs.WordLaws.{words_len, words_back, words_below, each_below}
 use Rattle.sp_frames.proofs.TableLaws.{same_number, within_is, IsRow, error_number}
@@ -35,6 +37,11 @@ name_is make false bytes b e = (refl, cc)
 test_is : (t : Bool) (made b : Body) → body_if t made ≡ Some b → (t ≡ true) × (made ≡ b)
 test_is true made b e = (refl, cc)
 test_is false made b e = absurd cc
+
+-- a refusal has the error that its word is
+refusal_is : (k : ℕ) (o : Option SpError) (b : Body) → option_map (body.Refused k) o ≡ Some b → (why : SpError) × (o ≡ Some why) × (body.Refused k why ≡ b)
+refusal_is k None b e = absurd cc
+refusal_is k (Some why) b e = (why, refl, cc)
 
 pub body_found : (r : Row) (c k w : ℕ) (p : List ℕ) (b : Body) → IsBytes p → w < 2 ^ 32 → IsRow c k w r → has_size r (length p) ≡ true → body_at r k w p ≡ Some b → IsOf c k w p b
 body_found row.Guest c k w p b fits lt is size e =
@@ -136,5 +143,6 @@ body_found row.ExecReady c k w p b fits lt is size e =
     subst (IsOf c k w p) made (record { class = is.class; kind = same_number k 6 is.kind; word = same_number w 0 is.word; payload = front_whole (front_in row.ExecReady) p fits l; fits = record { word = omega arith; front = front_below (front_in row.ExecReady) 0 p fits; row = tt } })
 body_found row.Refused c k w p b fits lt is size e =
     let l : length p ≡ 0 = sym (same_number (length p) 0 size) in
-    let made : body.Refused k (error_of w) ≡ b = cc in
-    subst (IsOf c k w p) made (record { class = is.class; kind = refl; word = error_number w is.word; payload = no_items p l; fits = record { word = rw (error_number w is.word) lt; front = tt; row = is.kind } })
+    let s = refusal_is k (sp_error_of w) b e in
+    let number = error_number w s.0 s.1 in
+    subst (IsOf c k w p) s.2 (record { class = is.class; kind = refl; word = number; payload = no_items p l; fits = record { word = rw number lt; front = tt; row = is.kind } })

@@ -10,7 +10,7 @@ use Rattle.sp_frames.specs.declared.rows.Row.{Row}
 use Rattle.sp_frames.specs.declared.rows.Row.TheVariants as row
 use Rattle.sp_frames.specs.Fields.{le64, Number, n32, n64, NumberFits, front_bytes}
 use Rattle.sp_frames.specs.Grammar.{cookie_numbers, parts_of, payload_of, BodyFits}
-use Rattle.sp_frames.specs.Reading.{front_at, front_end, has_size, front_in, body_from, body_at, row_length, row_at}
+use Rattle.sp_frames.specs.Reading.{front_at, front_end, has_size, front_in, body_from, body_at, row_at}
 use Rattle.sp_frames.proofs.FieldLaws.{front_len, front_again}
 use Rattle.sp_frames.proofs.WordLaws.{words_size, words_again, all_below}
 use Rattle.sp_frames.proofs.TableLaws.{within_true, error_word, error_again}
@@ -226,26 +226,3 @@ body_read (body.Refused kind why) fits =
       few = omega (arith, size);
       body = read_body row.Refused kind (sp_error_number why) ([]) [] (body.Refused kind why) (λ p. refl) refl fits.front (rw (error_again why) refl);
     }
-
--- the length of a payload
-pub payload_size : (b : Body) → length (payload_of b) ≡ row_length b
-payload_size (body.Guest name) = front_size ([]) name ∙ omega arith
-payload_size (body.Join cookie name) = front_size (cookie_numbers cookie []) name
-payload_size (body.Image cookie name) = front_size (cookie_numbers cookie []) name
-payload_size (body.Sys num words) = words_size words
-payload_size (body.AskBytes index addr len) = front_size (n64 addr ∷ n64 len ∷ []) []
-payload_size (body.AskText index addr max) = front_size (n64 addr ∷ n64 max ∷ []) []
-payload_size (body.Put index addr bytes) = front_size (n64 addr ∷ []) bytes
-payload_size body.Prefork = front_size ([]) []
-payload_size (body.Cancel cookie) = front_size (cookie_numbers cookie []) []
-payload_size body.Preexec = front_size ([]) []
-payload_size (body.Hello pid) = front_size (n32 pid.0 ∷ []) []
-payload_size (body.Joined pid) = front_size (n32 pid.0 ∷ []) []
-payload_size (body.Imaged pid place) = front_size (n32 pid.0 ∷ n64 place.0 ∷ []) []
-payload_size (body.Answered answer) = front_size (n64 answer.ret0 ∷ n64 answer.ret1 ∷ n64 answer.place.0 ∷ []) []
-payload_size (body.GotBytes index err bytes) = front_size (n32 err ∷ []) bytes
-payload_size (body.GotText index err bytes) = front_size (n32 err ∷ []) bytes
-payload_size (body.Forked cookie place pid) = front_size (cookie_numbers cookie (n64 place.0 ∷ n64 pid.0 ∷ [])) []
-payload_size body.Cancelled = front_size ([]) []
-payload_size (body.ExecReady cookie) = front_size (cookie_numbers cookie []) []
-payload_size (body.Refused kind why) = front_size ([]) []

@@ -1,5 +1,5 @@
 -- What rows there are, in words of the grammar: each has a body of each word and length that it allows.
-use Rattle.std.proofs.Common.{◌≡◌, inl, inr, zero, suc, ℕ, ◌-◌, ◌^◌, ◌<◌, ◌≤◌, ◌==◌, Bool, true, false, List, [], ◌∷◌, ◌++◌, length, Some, refl, sym, ap, ◌∙◌, subst, arith, replicate, length-append}
+use Rattle.std.proofs.Common.{◌≡◌, inl, inr, zero, suc, ℕ, ◌-◌, ◌^◌, ◌<◌, ◌≤◌, ◌==◌, Bool, true, false, List, [], ◌∷◌, ◌++◌, length, Some, option_map, refl, sym, ap, ◌∙◌, subst, arith, replicate, length-append}
 use Rattle.std.specs.List.{list_any}
 use Rattle.std.proofs.lemmas.List.{length-replicate}
 use Rattle.sp_frames.specs.declared.frame.Body.{Body}
@@ -9,8 +9,8 @@ use Rattle.sp_frames.specs.declared.rows.Row.TheVariants as row
 use Rattle.sp_frames.specs.Fields.{of32, of64, IsBytes}
 use Rattle.sp_frames.specs.Grammar.{parts_of, BodyFits}
 use Rattle.sp_frames.specs.Faults.{HasKind, HasWord, HasSize, HasPayload}
-use Rattle.sp_frames.specs.Reading.{front_end, rows, class_in, has_type, has_size, front_in, body_at, is_of, row_at, has_kind}
-use Rattle.sp_frames.proofs.TableLaws.{same_number, within_is, either, both, row_is}
+use Rattle.sp_frames.specs.Reading.{front_end, rows, class_in, has_type, has_word, has_size, front_in, body_at, is_of, row_at, has_kind}
+use Rattle.sp_frames.proofs.TableLaws.{same_number, within_is, either, both, row_is, error_there}
 use Rattle.sp_frames.proofs.FoundLaws.{body_found}
 
 no_zeros : (n : ℕ) → list_any (λ b. b == 0) (replicate n 1) ≡ false
@@ -22,7 +22,7 @@ same_bytes zero b lt i = omega arith
 same_bytes (suc n) b lt zero = lt
 same_bytes (suc n) b lt (suc i) = same_bytes n b lt i
 
-IsBytes-append : (xs ys : List ℕ) → IsBytes xs → IsBytes ys → IsBytes (xs ++ ys)
+pub IsBytes-append : (xs ys : List ℕ) → IsBytes xs → IsBytes ys → IsBytes (xs ++ ys)
 IsBytes-append [] ys hx hy i = hy i
 IsBytes-append (x ∷ xs) ys hx hy zero = hx 0
 IsBytes-append (x ∷ xs) ys hx hy (suc i) = IsBytes-append xs ys (λ i. hx (suc i)) hy i
@@ -59,28 +59,30 @@ record Spells (r : Row) (k w : ℕ) (p : List ℕ) : Type 0 where
   body : Body
   read : body_at r k w p ≡ Some body
 
-sample-spells : (r : Row) (k w n : ℕ) → Spells r k w (sample r n)
+sample-spells : (r : Row) (k w n : ℕ) → has_word r w ≡ true → Spells r k w (sample r n)
 unfolding of32 of64
-sample-spells row.Guest k w n = record { body = body.Guest (replicate (n - 0) 1); read = rw (no_zeros (n - 0)) refl }
-sample-spells row.Join k w n = record { body = body.Join (record { number = 0; salt = 0 }) (replicate (n - 16) 1); read = rw (no_zeros (n - 16)) refl }
-sample-spells row.Image k w n = record { body = body.Image (record { number = 0; salt = 0 }) (replicate (n - 16) 1); read = rw (no_zeros (n - 16)) refl }
-sample-spells row.Sys k w n = record { body = _; read = refl }
-sample-spells row.AskBytes k w n = record { body = _; read = refl }
-sample-spells row.AskText k w n = record { body = _; read = refl }
-sample-spells row.Put k w n = record { body = _; read = refl }
-sample-spells row.Prefork k w n = record { body = _; read = refl }
-sample-spells row.Cancel k w n = record { body = _; read = refl }
-sample-spells row.Preexec k w n = record { body = _; read = refl }
-sample-spells row.Hello k w n = record { body = _; read = refl }
-sample-spells row.Joined k w n = record { body = _; read = refl }
-sample-spells row.Imaged k w n = record { body = _; read = refl }
-sample-spells row.Answered k w n = record { body = _; read = refl }
-sample-spells row.GotBytes k w n = record { body = _; read = refl }
-sample-spells row.GotText k w n = record { body = body.GotText w 0 (replicate (n - 4) 1); read = rw (no_zeros (n - 4)) refl }
-sample-spells row.Forked k w n = record { body = _; read = refl }
-sample-spells row.Cancelled k w n = record { body = _; read = refl }
-sample-spells row.ExecReady k w n = record { body = _; read = refl }
-sample-spells row.Refused k w n = record { body = _; read = refl }
+sample-spells row.Guest k w n has = record { body = body.Guest (replicate (n - 0) 1); read = rw (no_zeros (n - 0)) refl }
+sample-spells row.Join k w n has = record { body = body.Join (record { number = 0; salt = 0 }) (replicate (n - 16) 1); read = rw (no_zeros (n - 16)) refl }
+sample-spells row.Image k w n has = record { body = body.Image (record { number = 0; salt = 0 }) (replicate (n - 16) 1); read = rw (no_zeros (n - 16)) refl }
+sample-spells row.Sys k w n has = record { body = _; read = refl }
+sample-spells row.AskBytes k w n has = record { body = _; read = refl }
+sample-spells row.AskText k w n has = record { body = _; read = refl }
+sample-spells row.Put k w n has = record { body = _; read = refl }
+sample-spells row.Prefork k w n has = record { body = _; read = refl }
+sample-spells row.Cancel k w n has = record { body = _; read = refl }
+sample-spells row.Preexec k w n has = record { body = _; read = refl }
+sample-spells row.Hello k w n has = record { body = _; read = refl }
+sample-spells row.Joined k w n has = record { body = _; read = refl }
+sample-spells row.Imaged k w n has = record { body = _; read = refl }
+sample-spells row.Answered k w n has = record { body = _; read = refl }
+sample-spells row.GotBytes k w n has = record { body = _; read = refl }
+sample-spells row.GotText k w n has = record { body = body.GotText w 0 (replicate (n - 4) 1); read = rw (no_zeros (n - 4)) refl }
+sample-spells row.Forked k w n has = record { body = _; read = refl }
+sample-spells row.Cancelled k w n has = record { body = _; read = refl }
+sample-spells row.ExecReady k w n has = record { body = _; read = refl }
+sample-spells row.Refused k w n has =
+    let is = error_there w has in
+    record { body = body.Refused k is.0; read = ap (option_map (body.Refused k)) is.1 }
 
 -- a word that a row has
 abbrev a_word : Row → ℕ
@@ -218,7 +220,7 @@ size-made c k w n r lt e size =
     let front = front_end 0 (front_in r) in
     let bytes : IsBytes p = IsBytes-append (replicate front 0) (replicate (n - front) 1) (same_bytes front 0 (omega arith)) (same_bytes (n - front) 1 (omega arith)) in
     let len : length p ≡ n = sample-size r n size in
-    let s = sample-spells r k w n in
+    let s = sample-spells r k w n (row_is c k w r e).word in
     let is = payload-made c k w r p s.body bytes lt e (rw len size) s.read in
     (is.0, is.1, is.2, ap length is.3 ∙ len)
 

@@ -2,16 +2,18 @@
 use Rattle.std.proofs.Common.{◌≡◌, ℕ, ◌+◌, List, [], ◌∷◌, ◌++◌, length, drop, refl, sym, ap, ◌∙◌, append_assoc}
 use Rattle.std.specs.List.{flat_map, AllByRecursion}
 use Rattle.std.proofs.lemmas.List.{append-nil, drop_at, drop-drop}
+use Rattle.sp_frames.specs.declared.fault.FrameFault.{FrameFault}
 use Rattle.sp_frames.specs.declared.frame.Frame.{Frame}
 use Rattle.sp_frames.specs.declared.reading.Step.{Step}
 use Rattle.sp_frames.specs.declared.reading.Step.TheVariants.{Whole, Partial, Fault}
 use Rattle.sp_frames.specs.Fields.{IsBytes}
 use Rattle.sp_frames.specs.Grammar.{spelling, Fits}
 use Rattle.sp_frames.specs.Stream.{stream_of, NoFront, IsWhole}
+use Rattle.sp_frames.specs.Faults.{HasFault}
 use Rattle.sp_frames.specs.Feeding.{IsFront, FrontIs}
 use Rattle.sp_frames.specs.Reading.{step_of}
 use Rattle.sp_frames.proofs.StepLaws.{spelled, found}
-use Rattle.sp_frames.proofs.FaultLaws.{step_fault, partial_none}
+use Rattle.sp_frames.proofs.FaultLaws.{step_fault, fault_step, has_fault_stays, partial_none}
 
 -- ---- what stands at the front of bytes
 
@@ -78,3 +80,19 @@ streams (f ∷ fs) (g ∷ gs) r s hf hg nr ns e =
 
 pub one_whole : (bytes : List ℕ) (fs gs : List Frame) (r s : List ℕ) → IsWhole bytes fs r → IsWhole bytes gs s → (fs ≡ gs) × (r ≡ s)
 one_whole bytes fs gs r s a b = streams fs gs r s a.each b.each a.none b.none (sym a.whole ∙ b.whole)
+
+-- ---- what follows a fault
+
+-- bytes that begin with a fault still do whatever bytes come behind them, and no frame begins them
+pub fault_stays : (bytes more : List ℕ) (e : FrameFault) → IsBytes more → HasFault bytes e → HasFault (bytes ++ more) e × NoFront (bytes ++ more)
+fault_stays bytes more e all has =
+    let there = has_fault_stays bytes more e all has in
+    (there, no_front (Fault e) (bytes ++ more) (λ f n is. absurd cc) (sym (fault_step (bytes ++ more) e there)))
+
+-- the frames before a fault are the frames of the whole, whatever bytes come behind
+pub fault_ends_the_frames : (bytes more : List ℕ) (frames : List Frame) (rest : List ℕ) (e : FrameFault) → IsBytes more → IsWhole bytes frames rest → HasFault rest e → IsWhole (bytes ++ more) frames (rest ++ more)
+fault_ends_the_frames bytes more frames rest e all is has = record {
+  whole = ap (λ (x : List ℕ). x ++ more) is.whole ∙ append_assoc (flat_map spelling frames) rest more;
+  each = is.each;
+  none = (fault_stays rest more e all has).1;
+}

@@ -3,10 +3,10 @@ use Rattle.std.proofs.Common.{◌≡◌, ◌⊎◌, inl, inr, zero, suc, ℕ, �
 use Rattle.std.proofs.lemmas.Bool.Decides.{nat_tests}
 use Rattle.sp_base.specs.declared.names.SpError.{SpError}
 use Rattle.sp_base.specs.declared.names.SpError.TheVariants as error
-use Rattle.sp_base.specs.Names.{sp_error_number}
+use Rattle.sp_base.specs.Names.{sp_error_number, sp_error_of}
 use Rattle.sp_frames.specs.declared.rows.Row.{Row}
 use Rattle.sp_frames.specs.declared.rows.Row.TheVariants as row
-use Rattle.sp_frames.specs.Reading.{rows, class_in, has_type, has_word, within, errors, error_of, is_of, row_at}
+use Rattle.sp_frames.specs.Reading.{rows, class_in, has_type, has_word, within, is_of, row_at}
 
 pub same_number : (n m : ℕ) → (n == m) ≡ true → m ≡ n
 same_number n m e = grind (arith, nat_tests)
@@ -109,19 +109,36 @@ type-most row.Refused k e = grind (arith, nat_tests)
 
 -- ---- the errors that a frame carries
 
-number_at : (n : ℕ) → n ≤ 6 → sp_error_number (get_or errors n error.TryAgain) ≡ n + 1
-number_at zero le = refl
-number_at (suc zero) le = refl
-number_at (suc (suc zero)) le = refl
-number_at (suc (suc (suc zero))) le = refl
-number_at (suc (suc (suc (suc zero)))) le = refl
-number_at (suc (suc (suc (suc (suc zero))))) le = refl
-number_at (suc (suc (suc (suc (suc (suc zero)))))) le = refl
-number_at (suc (suc (suc (suc (suc (suc (suc n))))))) le = absurd (omega (arith, le))
+-- a number that passes a test is that of the error behind it, or a later one's
+one_or_later : (w n : ℕ) (x why : SpError) (o : Option SpError) → sp_error_number x ≡ n → (o ≡ Some why → sp_error_number why ≡ w) → cond (w == n) (Some x) o ≡ Some why → sp_error_number why ≡ w
+one_or_later w n x why o number later e =
+    elim (found_first (w == n) x why o e) [
+      | inl here ↦ ap sp_error_number (sym here.1) ∙ number ∙ same_number w n here.0
+      | inr others ↦ later others
+    ]
 
 -- the error of a number has that number
-pub error_number : (w : ℕ) → within 1 7 w ≡ true → sp_error_number (error_of w) ≡ w
-error_number w e = let l = within_is 1 7 w e in number_at (w - 1) (omega (arith, l.1)) ∙ omega (arith, l.0)
+pub error_number : (w : ℕ) (why : SpError) → sp_error_of w ≡ Some why → sp_error_number why ≡ w
+error_number w why =
+    one_or_later w 1 error.TryAgain why _ refl
+    (one_or_later w 2 error.Auth why _ refl
+    (one_or_later w 3 error.BadCookie why _ refl
+    (one_or_later w 4 error.ProcFull why _ refl
+    (one_or_later w 5 error.InExec why _ refl
+    (one_or_later w 6 error.Memory why _ refl
+    (one_or_later w 7 error.Malformed why None refl (λ e. absurd cc)))))))
+
+-- a number from 1 to 7 is that of an error
+pub error_there : (w : ℕ) → within 1 7 w ≡ true → (why : SpError) × (sp_error_of w ≡ Some why)
+error_there zero e = absurd cc
+error_there (suc zero) e = (error.TryAgain, refl)
+error_there (suc (suc zero)) e = (error.Auth, refl)
+error_there (suc (suc (suc zero))) e = (error.BadCookie, refl)
+error_there (suc (suc (suc (suc zero)))) e = (error.ProcFull, refl)
+error_there (suc (suc (suc (suc (suc zero))))) e = (error.InExec, refl)
+error_there (suc (suc (suc (suc (suc (suc zero)))))) e = (error.Memory, refl)
+error_there (suc (suc (suc (suc (suc (suc (suc zero))))))) e = (error.Malformed, refl)
+error_there (suc (suc (suc (suc (suc (suc (suc (suc n)))))))) e = absurd (omega (arith, (within_is 1 7 (suc (suc (suc (suc (suc (suc (suc (suc n)))))))) e).1))
 
 pub error_word : (why : SpError) → within 1 7 (sp_error_number why) ≡ true
 error_word error.TryAgain = refl
@@ -133,7 +150,7 @@ error_word error.Memory = refl
 error_word error.Malformed = refl
 
 -- and the number of an error has that error
-pub error_again : (why : SpError) → error_of (sp_error_number why) ≡ why
+pub error_again : (why : SpError) → sp_error_of (sp_error_number why) ≡ Some why
 error_again error.TryAgain = refl
 error_again error.Auth = refl
 error_again error.BadCookie = refl

@@ -6,6 +6,7 @@ use Rattle.sp_base.specs.declared.names.Cookie.{Cookie}
 use Rattle.sp_frames.specs.declared.frame.Body.{Body}
 use Rattle.sp_frames.specs.declared.frame.Body.TheVariants.{Guest, Join, Image, Sys, AskBytes, AskText, Put, Prefork, Cancel, Preexec, Hello, Joined, Imaged, Answered, GotBytes, GotText, Forked, Cancelled, ExecReady, Refused}
 use Rattle.sp_frames.specs.declared.frame.Frame.{Frame}
+use Rattle.sp_frames.specs.declared.frame.TheConstants.{INDEX_LIMIT}
 use Rattle.sp_frames.specs.declared.header.Header.{Header}
 use Rattle.sp_frames.specs.Fields.{le16, le32, le64, IsBytes, Number, n32, n64, NumberFits, front_bytes}
 
@@ -100,11 +101,11 @@ RowFits (Guest name) = IsName name
 RowFits (Join cookie name) = IsName name
 RowFits (Image cookie name) = IsName name
 RowFits (Sys num words) = AreWords words
-RowFits (AskBytes index addr len) = index < 8
-RowFits (AskText index addr max) = index < 8
-RowFits (Put index addr bytes) = (index < 8) × (0 < length bytes) × IsPiece 131040 bytes
-RowFits (GotBytes index err bytes) = (index < 8) × IsPiece 131044 bytes × (is_answer err bytes ≡ true)
-RowFits (GotText index err bytes) = (index < 8) × IsPiece 1023 bytes × (is_text_answer err bytes ≡ true)
+RowFits (AskBytes index addr len) = index < INDEX_LIMIT
+RowFits (AskText index addr max) = index < INDEX_LIMIT
+RowFits (Put index addr bytes) = (index < INDEX_LIMIT) × (0 < length bytes) × IsPiece 131040 bytes
+RowFits (GotBytes index err bytes) = (index < INDEX_LIMIT) × IsPiece 131044 bytes × (is_answer err bytes ≡ true)
+RowFits (GotText index err bytes) = (index < INDEX_LIMIT) × IsPiece 1023 bytes × (is_text_answer err bytes ≡ true)
 RowFits (Forked cookie place pid) = pid.0 < 2 ^ 32
 RowFits (Refused kind why) = may_be_refused kind ≡ true
 RowFits _ = Unit {0}

@@ -1,3 +1,4 @@
+pub mod Banner
 pub mod Fields
 pub mod Grammar
 pub mod Stream

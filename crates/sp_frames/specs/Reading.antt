@@ -5,14 +5,17 @@ use Rattle.sp_frames.specs.declared.fault.FrameFault.{FrameFault}
 use Rattle.sp_frames.specs.declared.fault.FrameFault.TheVariants.{TooShort, TooLong, Class, Kind, Word, Payload}
 use Rattle.sp_frames.specs.declared.frame.Body.{Body}
 use Rattle.sp_frames.specs.declared.frame.Body.TheVariants as body
+use Rattle.sp_frames.specs.declared.frame.TheConstants.{INDEX_LIMIT}
 use Rattle.sp_frames.specs.declared.header.Header.{Header}
 use Rattle.sp_frames.specs.declared.rows.Row.{Row}
 use Rattle.sp_frames.specs.declared.rows.Row.TheVariants as row
+use Rattle.sp_frames.specs.declared.rows.Allowed.{Allowed}
+use Rattle.sp_frames.specs.declared.rows.Allowed.TheVariants.{Only, Within, Below, Any, Refusable, Words}
+use Rattle.sp_frames.specs.declared.rows.Shape.{Shape}
 use Rattle.sp_frames.specs.declared.reading.Step.{Step}
 use Rattle.sp_frames.specs.declared.reading.Step.TheVariants.{Whole, Partial, Fault}
 use Rattle.sp_base.specs.declared.names.Cookie.{Cookie}
-use Rattle.sp_base.specs.declared.names.SpError.{SpError}
-use Rattle.sp_base.specs.declared.names.SpError.TheVariants as error
+use Rattle.sp_base.specs.Names.{sp_error_of}
 use Rattle.sp_frames.specs.Grammar.{is_answer, is_text_answer, may_be_refused}
 use Rattle.sp_frames.specs.Fields.{of16, of32, of64, Number, n16, n32, n64}
 
@@ -83,124 +86,79 @@ rows =
     row.Refused ∷
     []
 
--- a row's class
-abbrev pub class_in : Row → ℕ
-class_in row.Guest = 0
-class_in row.Join = 0
-class_in row.Image = 0
-class_in row.Sys = 0
-class_in row.AskBytes = 0
-class_in row.AskText = 0
-class_in row.Put = 0
-class_in row.Prefork = 0
-class_in row.Cancel = 0
-class_in row.Preexec = 0
-class_in row.Hello = 1
-class_in row.Joined = 1
-class_in row.Imaged = 1
-class_in row.Answered = 1
-class_in row.GotBytes = 1
-class_in row.GotText = 1
-class_in row.Forked = 1
-class_in row.Cancelled = 1
-class_in row.ExecReady = 1
-class_in row.Refused = 2
-
--- the types that a row has
-abbrev pub has_type : Row → ℕ → Bool
-has_type row.Guest kind = kind == 0
-has_type row.Join kind = kind == 0
-has_type row.Image kind = kind == 0
-has_type row.Sys kind = kind == 1
-has_type row.AskBytes kind = kind == 2
-has_type row.AskText kind = kind == 3
-has_type row.Put kind = kind == 4
-has_type row.Prefork kind = kind == 5
-has_type row.Cancel kind = kind == 5
-has_type row.Preexec kind = kind == 6
-has_type row.Hello kind = kind == 0
-has_type row.Joined kind = kind == 0
-has_type row.Imaged kind = kind == 0
-has_type row.Answered kind = kind == 1
-has_type row.GotBytes kind = kind == 2
-has_type row.GotText kind = kind == 3
-has_type row.Forked kind = kind == 5
-has_type row.Cancelled kind = kind == 5
-has_type row.ExecReady kind = kind == 6
-has_type row.Refused kind = may_be_refused kind
-
--- the words that a row has
-abbrev pub has_word : Row → ℕ → Bool
-has_word row.Guest word = word == 0
-has_word row.Join word = word == 1
-has_word row.Image word = word == 2
-has_word row.Sys word = true
-has_word row.AskBytes word = nat_lt word 8
-has_word row.AskText word = nat_lt word 8
-has_word row.Put word = nat_lt word 8
-has_word row.Prefork word = word == 0
-has_word row.Cancel word = word == 1
-has_word row.Preexec word = word == 0
-has_word row.Hello word = word == 0
-has_word row.Joined word = word == 1
-has_word row.Imaged word = word == 2
-has_word row.Answered word = true
-has_word row.GotBytes word = nat_lt word 8
-has_word row.GotText word = nat_lt word 8
-has_word row.Forked word = word == 0
-has_word row.Cancelled word = word == 1
-has_word row.ExecReady word = word == 0
-has_word row.Refused word = nat_le 1 word && nat_le word 7
-
 -- a number within limits
 abbrev pub within : ℕ → ℕ → ℕ → Bool
 within least most n = nat_le least n && nat_le n most
 
+-- the numbers that a header's field or a payload's length may be
+abbrev pub allows : Allowed → ℕ → Bool
+allows (Only n) number = number == n
+allows (Within least most) number = within least most number
+allows (Below limit) number = nat_lt number limit
+allows Any number = true
+allows Refusable number = may_be_refused number
+allows Words number = nat_le number 64 && (number % 8 == 0)
+
+-- a row: its class, types, words and payload lengths, the numbers at its payload's front, and whether bytes follow them
+pub record Layout : Type 0 where
+  pub shape : Shape
+  pub front : List Number
+  pub has_tail : Bool
+
+-- a row of these parts
+abbrev pub layout : ℕ → Allowed → Allowed → Allowed → List Number → Bool → Layout
+layout class kinds words sizes front has_tail = record {
+  shape = record { class = class; kinds = kinds; words = words; sizes = sizes };
+  front = front;
+  has_tail = has_tail;
+}
+
+-- the table of rows
+abbrev pub layout_of : Row → Layout
+layout_of row.Guest = layout 0 (Only 0) (Only 0) (Within 1 255) [] true
+layout_of row.Join = layout 0 (Only 0) (Only 1) (Within 17 271) (n64 0 ∷ n64 0 ∷ []) true
+layout_of row.Image = layout 0 (Only 0) (Only 2) (Within 17 271) (n64 0 ∷ n64 0 ∷ []) true
+layout_of row.Sys = layout 0 (Only 1) Any Words [] true
+layout_of row.AskBytes = layout 0 (Only 2) (Below INDEX_LIMIT) (Only 16) (n64 0 ∷ n64 0 ∷ []) false
+layout_of row.AskText = layout 0 (Only 3) (Below INDEX_LIMIT) (Only 16) (n64 0 ∷ n64 0 ∷ []) false
+layout_of row.Put = layout 0 (Only 4) (Below INDEX_LIMIT) (Within 9 131048) (n64 0 ∷ []) true
+layout_of row.Prefork = layout 0 (Only 5) (Only 0) (Only 0) [] false
+layout_of row.Cancel = layout 0 (Only 5) (Only 1) (Only 16) (n64 0 ∷ n64 0 ∷ []) false
+layout_of row.Preexec = layout 0 (Only 6) (Only 0) (Only 0) [] false
+layout_of row.Hello = layout 1 (Only 0) (Only 0) (Only 4) (n32 0 ∷ []) false
+layout_of row.Joined = layout 1 (Only 0) (Only 1) (Only 4) (n32 0 ∷ []) false
+layout_of row.Imaged = layout 1 (Only 0) (Only 2) (Only 12) (n32 0 ∷ n64 0 ∷ []) false
+layout_of row.Answered = layout 1 (Only 1) Any (Only 24) (n64 0 ∷ n64 0 ∷ n64 0 ∷ []) false
+layout_of row.GotBytes = layout 1 (Only 2) (Below INDEX_LIMIT) (Within 4 131048) (n32 0 ∷ []) true
+layout_of row.GotText = layout 1 (Only 3) (Below INDEX_LIMIT) (Within 4 1027) (n32 0 ∷ []) true
+layout_of row.Forked = layout 1 (Only 5) (Only 0) (Only 32) (n64 0 ∷ n64 0 ∷ n64 0 ∷ n64 0 ∷ []) false
+layout_of row.Cancelled = layout 1 (Only 5) (Only 1) (Only 0) [] false
+layout_of row.ExecReady = layout 1 (Only 6) (Only 0) (Only 16) (n64 0 ∷ n64 0 ∷ []) false
+layout_of row.Refused = layout 2 Refusable (Within 1 7) (Only 0) [] false
+
+-- a row's class
+abbrev pub class_in : Row → ℕ
+class_in r = (layout_of r).shape.class
+
+-- the types that a row has
+abbrev pub has_type : Row → ℕ → Bool
+has_type r kind = allows (layout_of r).shape.kinds kind
+
+-- the words that a row has
+abbrev pub has_word : Row → ℕ → Bool
+has_word r word = allows (layout_of r).shape.words word
+
 -- the lengths that a row's payload may have
 abbrev pub has_size : Row → ℕ → Bool
-has_size row.Guest n = within 1 255 n
-has_size row.Join n = within 17 271 n
-has_size row.Image n = within 17 271 n
-has_size row.Sys n = nat_le n 64 && (n % 8 == 0)
-has_size row.AskBytes n = n == 16
-has_size row.AskText n = n == 16
-has_size row.Put n = within 9 131048 n
-has_size row.Prefork n = n == 0
-has_size row.Cancel n = n == 16
-has_size row.Preexec n = n == 0
-has_size row.Hello n = n == 4
-has_size row.Joined n = n == 4
-has_size row.Imaged n = n == 12
-has_size row.Answered n = n == 24
-has_size row.GotBytes n = within 4 131048 n
-has_size row.GotText n = within 4 1027 n
-has_size row.Forked n = n == 32
-has_size row.Cancelled n = n == 0
-has_size row.ExecReady n = n == 16
-has_size row.Refused n = n == 0
+has_size r len = allows (layout_of r).shape.sizes len
 
 -- the widths of the numbers at the front of a row's payload
 abbrev pub front_in : Row → List Number
-front_in row.Guest = []
-front_in row.Join = n64 0 ∷ n64 0 ∷ []
-front_in row.Image = n64 0 ∷ n64 0 ∷ []
-front_in row.Sys = []
-front_in row.AskBytes = n64 0 ∷ n64 0 ∷ []
-front_in row.AskText = n64 0 ∷ n64 0 ∷ []
-front_in row.Put = n64 0 ∷ []
-front_in row.Prefork = []
-front_in row.Cancel = n64 0 ∷ n64 0 ∷ []
-front_in row.Preexec = []
-front_in row.Hello = n32 0 ∷ []
-front_in row.Joined = n32 0 ∷ []
-front_in row.Imaged = n32 0 ∷ n64 0 ∷ []
-front_in row.Answered = n64 0 ∷ n64 0 ∷ n64 0 ∷ []
-front_in row.GotBytes = n32 0 ∷ []
-front_in row.GotText = n32 0 ∷ []
-front_in row.Forked = n64 0 ∷ n64 0 ∷ n64 0 ∷ n64 0 ∷ []
-front_in row.Cancelled = []
-front_in row.ExecReady = n64 0 ∷ n64 0 ∷ []
-front_in row.Refused = []
+front_in r = (layout_of r).front
+
+-- bytes stand behind the numbers of a row's payload
+abbrev pub has_tail : Row → Bool
+has_tail r = (layout_of r).has_tail
 
 -- that many words
 unfoldable pub words_at : ℕ → List ℕ → List ℕ
@@ -218,14 +176,6 @@ cookie_from front = record { number = nth front 0; salt = nth front 1 }
 -- a body, if a test passes
 abbrev pub body_if : Bool → Body → Option Body
 body_if test made = if test then Some made else None
-
--- the errors with a number, from 1 on
-abbrev pub errors : List SpError
-errors = error.TryAgain ∷ error.Auth ∷ error.BadCookie ∷ error.ProcFull ∷ error.InExec ∷ error.Memory ∷ error.Malformed ∷ []
-
--- the error of a number
-abbrev pub error_of : ℕ → SpError
-error_of word = get_or errors (word - 1) error.TryAgain
 
 -- the body of a row's type, word, numbers and bytes, unless they are outside the row
 abbrev pub body_from : Row → ℕ → ℕ → List Number → List ℕ → Option Body
@@ -248,7 +198,7 @@ body_from row.GotText kind word front tail = body_if (is_text_answer (nth front 
 body_from row.Forked kind word front tail = body_if (nat_lt (nth front 3) 4294967296) (body.Forked (cookie_from front) (record { 0 = nth front 2 }) (record { 0 = nth front 3 }))
 body_from row.Cancelled kind word front tail = Some body.Cancelled
 body_from row.ExecReady kind word front tail = Some (body.ExecReady (cookie_from front))
-body_from row.Refused kind word front tail = Some (body.Refused kind (error_of word))
+body_from row.Refused kind word front tail = option_map (body.Refused kind) (sp_error_of word)
 
 -- what a payload of a length that the row has says
 abbrev pub body_at : Row → ℕ → ℕ → List ℕ → Option Body
@@ -257,17 +207,6 @@ body_at r kind word payload = body_from r kind word (front_at 0 (front_in r) pay
 -- a row has this class and type
 abbrev pub is_of : ℕ → ℕ → Row → Bool
 is_of class kind r = (class_in r == class) && has_type r kind
-
--- bytes stand behind the numbers of a row's payload
-abbrev pub has_tail : Row → Bool
-has_tail row.Guest = true
-has_tail row.Join = true
-has_tail row.Image = true
-has_tail row.Sys = true
-has_tail row.Put = true
-has_tail row.GotBytes = true
-has_tail row.GotText = true
-has_tail _ = false
 
 -- the row of a class, a type and a word
 unfoldable pub row_at : ℕ → ℕ → ℕ → Option Row
@@ -309,26 +248,3 @@ step_by h (Err fault) bytes = Fault fault
 -- the frame at the front of the bytes and its length, or less than a frame, or a fault
 unfoldable pub step_of : List ℕ → Step
 step_of bytes = if nat_lt (length bytes) 24 then Partial else step_by (header_at bytes) (row_of (header_at bytes)) bytes
-
--- how many bytes a body's payload has
-abbrev pub row_length : Body → ℕ
-row_length (body.Guest name) = length name
-row_length (body.Join cookie name) = 16 + length name
-row_length (body.Image cookie name) = 16 + length name
-row_length (body.Sys num words) = 8 * length words
-row_length (body.AskBytes index addr len) = 16
-row_length (body.AskText index addr max) = 16
-row_length (body.Put index addr bytes) = 8 + length bytes
-row_length body.Prefork = 0
-row_length (body.Cancel cookie) = 16
-row_length body.Preexec = 0
-row_length (body.Hello pid) = 4
-row_length (body.Joined pid) = 4
-row_length (body.Imaged pid place) = 12
-row_length (body.Answered answer) = 24
-row_length (body.GotBytes index err bytes) = 4 + length bytes
-row_length (body.GotText index err bytes) = 4 + length bytes
-row_length (body.Forked cookie place pid) = 32
-row_length body.Cancelled = 0
-row_length (body.ExecReady cookie) = 16
-row_length (body.Refused kind why) = 0

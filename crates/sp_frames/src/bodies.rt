@@ -2,7 +2,7 @@
 ghost use Rattle.std.specs.Prelude.{◌≡◌, ◌*◌, ◌≤◌, true, false, [], ◌∷◌, length, IfOk};
 ghost use Rattle.sp_frames.specs.Fields.{n64};
 ghost use Rattle.sp_frames.specs.Grammar.{is_answer, is_text_answer};
-ghost use Rattle.sp_frames.specs.Reading.{has_size, front_at, words_at, name_of, cookie_from, error_of, has_tail, body_at};
+ghost use Rattle.sp_frames.specs.Reading.{has_size, front_at, words_at, name_of, cookie_from, has_tail, body_at};
 
 use crate::fields::{u32_at, u64_at};
 use crate::frame::Body;
@@ -40,20 +40,6 @@ fn cookie(payload: &[u8]) -> Cookie
     Cookie {
         number: u64_at(payload, 0),
         salt: u64_at(payload, 8),
-    }
-}
-
-fn error(word: u32) -> SpError
-    ensures { result ≡ error_of word }
-{
-    match word {
-        2 => SpError::Auth,
-        3 => SpError::BadCookie,
-        4 => SpError::ProcFull,
-        5 => SpError::InExec,
-        6 => SpError::Memory,
-        7 => SpError::Malformed,
-        _ => SpError::TryAgain,
     }
 }
 
@@ -127,10 +113,9 @@ fn numbers_body(row: Row, h: &Header, payload: &[u8]) -> Option<Body>
         Row::ExecReady => Some(Body::ExecReady {
             cookie: cookie(payload),
         }),
-        Row::Refused => Some(Body::Refused {
-            kind: h.kind,
-            why: error(h.word),
-        }),
+        Row::Refused => {
+            SpError::of_number(h.word).map(|why| Body::Refused { kind: h.kind, why })
+        }
         _ => None,
     }
 }
@@ -150,7 +135,8 @@ fn put_body(alloc: Global, h: &Header, payload: &[u8]) -> Result<Option<Body>, N
 
 fn got_bytes(alloc: Global, h: &Header, payload: &[u8]) -> Result<Option<Body>, NoMemory>
     requires { 4 ≤ length payload.now }
-    ensures { IfOk result (λ found. found ≡ body_at Row.GotBytes h.now.kind h.now.word payload.now) }
+    ensures { IfOk result (λ found.
+        found ≡ body_at Row.GotBytes h.now.kind h.now.word payload.now) }
 {
     let err = u32_at(payload, 0);
     let (_, bytes) = payload.split_at(4);

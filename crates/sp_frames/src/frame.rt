@@ -1,8 +1,11 @@
 use sp_base::{Answer, Cookie, Octets, Pid, Place, ReqNo, SpError, Words};
 
+/// The index of a request for memory is below this.
+pub const INDEX_LIMIT: u64 = 8;
+
 /// What a frame says. Each variant is a row of the table of frames.
 ///
-/// An index is 0 to 7. A name has 1 to 255 bytes, none of them zero.
+/// An index is below `INDEX_LIMIT`. A name has 1 to 255 bytes, none of them zero.
 #[derive(Debug, Drop)]
 pub enum Body {
     /// A request of a new guest.
@@ -71,7 +74,8 @@ pub enum Body {
         err: u32,
         bytes: Octets,
     },
-    /// The response to AskText: the error 0 with at most 1,023 bytes, none of them zero, or 14 or 63 with none.
+    /// The response to AskText: the error 0 with at most 1,023 bytes, none of them zero, or 14 or 63
+    /// with none.
     GotText {
         index: u32,
         err: u32,

@@ -33,7 +33,8 @@ struct Taken {
 }
 
 fn split(alloc: Global, bytes: &[u8]) -> Result<Cut, NoMemory>
-    ensures splits { IfOk result (λ s. Splits bytes.now s.frames.items (drop s.used bytes.now) s.stop) }
+    ensures splits { IfOk result (λ s.
+        Splits bytes.now s.frames.items (drop s.used bytes.now) s.stop) }
     ensures inside { IfOk result (λ s. s.used ≤ length bytes.now) }
 {
     let mut frames = VecDeque::new(alloc);
@@ -64,7 +65,8 @@ fn split(alloc: Global, bytes: &[u8]) -> Result<Cut, NoMemory>
 }
 
 fn join(alloc: Global, ready: &mut VecDeque<Frame>, bytes: &[u8]) -> Result<Taken, NoMemory>
-    ensures joins { IfOk result (λ t. Joins ready.old.items bytes.now ready.new.items (drop t.used bytes.now) t.stop) }
+    ensures joins { IfOk result (λ t.
+        Joins ready.old.items bytes.now ready.new.items (drop t.used bytes.now) t.stop) }
     ensures inside { IfOk result (λ t. t.used ≤ length bytes.now) }
     ensures err { OnErr result (ready.new.items ≡ ready.old.items) }
 {
@@ -94,7 +96,8 @@ fn add(
     bytes: &mut Vec<u8>,
     piece: &[u8],
 ) -> Result<Option<FrameFault>, NoMemory>
-    ensures joins { IfOk result (λ stop. Joins ready.old.items (bytes.old.items ++ piece.now) ready.new.items bytes.new.items stop) }
+    ensures joins { IfOk result (λ stop.
+        Joins ready.old.items (bytes.old.items ++ piece.now) ready.new.items bytes.new.items stop) }
     ensures ready { OnErr result (ready.new.items ≡ ready.old.items) }
     ensures bytes { OnErr result (bytes.new.items ≡ bytes.old.items) }
 {
@@ -161,14 +164,19 @@ impl Framer {
         ensures memory { result ≡ Err fault.NoMemory → self.new ≡ self.old }
 
         // Otherwise the piece is added, and the answer tells the fault that begins the rest.
-        ensures added { self.old.stop ≡ None → result ≢ Err fault.NoMemory → bytes_of self.new ≡ bytes_of self.old ++ piece.now }
+        ensures added { self.old.stop ≡ None → result ≢ Err fault.NoMemory
+            → bytes_of self.new ≡ bytes_of self.old ++ piece.now }
         ensures ok { OnOk result ((self.new.stop ≡ None) × NoFault self.new.rest) }
-        ensures fault { IfErr result (λ e. e ≢ fault.NoMemory → (self.new.stop ≡ Some e) × HasFault self.new.rest e) }
-        ensures exact { self.old.stop ≡ None → (frames : List Frame) (rest : List ℕ) (e : FrameFault)
-            → IsWhole (bytes_of self.old ++ piece.now) frames rest → HasFault rest e → (result ≡ Err e) ⊎ (result ≡ Err fault.NoMemory) }
+        ensures fault { IfErr result (λ e. e ≢ fault.NoMemory
+            → (self.new.stop ≡ Some e) × HasFault self.new.rest e) }
+        ensures exact { self.old.stop ≡ None
+            → (frames : List Frame) (rest : List ℕ) (e : FrameFault)
+            → IsWhole (bytes_of self.old ++ piece.now) frames rest → HasFault rest e
+            → (result ≡ Err e) ⊎ (result ≡ Err fault.NoMemory) }
 
         // The frames handed out, and then those ready, are the frames of all bytes fed.
-        ensures follows { self.old.stop ≡ None → result ≢ Err fault.NoMemory → (fed : List ℕ) (handed : List Frame)
+        ensures follows { self.old.stop ≡ None → result ≢ Err fault.NoMemory
+            → (fed : List ℕ) (handed : List Frame)
             → Follows fed handed self.old → Follows (fed ++ piece.now) handed self.new }
     {
         match self.stop {
@@ -191,7 +199,8 @@ impl Framer {
 
     /// The oldest frame that was not handed out; None exactly where none is ready. It takes no memory.
     pub fn next(&mut self) -> Option<Frame>
-        ensures next { MatchOption result (self.old.ready ≡ []) (λ frame. self.old.ready ≡ frame ∷ self.new.ready) }
+        ensures next { MatchOption result (self.old.ready ≡ [])
+            (λ frame. self.old.ready ≡ frame ∷ self.new.ready) }
         ensures none { IfNone result (self.new ≡ self.old) }
         ensures rest { self.new.rest ≡ self.old.rest }
         ensures stop { self.new.stop ≡ self.old.stop }

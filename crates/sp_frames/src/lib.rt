@@ -1,6 +1,7 @@
 //! Frames: the messages between a server and its clients, as bytes and back.
 //!
-//! `encode` spells a frame, and a `Framer` gives the frames back from a stream of bytes, however it is cut.
+//! `encode` spells a frame, and a `Framer` gives the frames back from a stream of bytes, however the
+//! stream is cut.
 #![tactic(auto)]
 
 mod banner;
@@ -19,7 +20,10 @@ mod writing;
 
 pub use banner::BANNER;
 pub use fault::FrameFault;
-pub use frame::{Body, Frame};
+pub use frame::{Body, Frame, INDEX_LIMIT};
 pub use framer::Framer;
-pub use laws::{no_prefix, one_fault, one_spelling, one_whole};
+pub use laws::{
+    banner_is_the_text, fault_ends_the_frames, fault_stays, no_prefix, one_fault, one_spelling,
+    one_whole,
+};
 pub use writing::encode;

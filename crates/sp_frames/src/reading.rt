@@ -53,7 +53,7 @@ fn find_step(alloc: Global, bytes: &[u8]) -> Result<Step, NoMemory>
     }
 }
 
-/// What stands at the front of the bytes.
+/// What stands at the front of the bytes, in words of the grammar; `find_step` follows the reading.
 pub fn read_step(alloc: Global, bytes: &[u8]) -> Result<Step, NoMemory>
     ensures { IfOk result (FrontIs bytes.now) }
 {

@@ -1,9 +1,12 @@
-//! The rows of the table of frames, as a reader meets them: class, type and word, and the payload's length.
+//! The rows of the table of frames, as a reader meets them: class, type and word, and the length of
+//! the payload.
 ghost use Rattle.std.specs.Prelude.{◌≡◌, ◌-◌, ◌≤◌, true, OnOk, IfOk};
-ghost use Rattle.sp_frames.specs.Reading.{row_at, has_kind, has_size, row_or, row_of};
+ghost use Rattle.sp_frames.specs.Reading.{allows, layout_of, is_of, has_word, has_size, row_at, has_kind, row_or, row_of};
 
 use crate::fault::FrameFault;
+use crate::frame::INDEX_LIMIT;
 use crate::header::Header;
+use Allowed::{Any, Below, Only, Refusable, Within, Words};
 
 /// The rows of the table of frames.
 #[derive(Clone, Copy, Debug)]
@@ -30,74 +33,138 @@ pub enum Row {
     Refused,
 }
 
-#[tactic(auto, unfolding(crate::specs::Reading::row_at))]
-fn request_row(kind: u16, word: u32) -> Option<Row>
-    ensures { result ≡ row_at 0 kind word }
-{
-    match (kind, word) {
-        (0, 0) => Some(Row::Guest),
-        (0, 1) => Some(Row::Join),
-        (0, 2) => Some(Row::Image),
-        (1, _) => Some(Row::Sys),
-        (2, 0..=7) => Some(Row::AskBytes),
-        (3, 0..=7) => Some(Row::AskText),
-        (4, 0..=7) => Some(Row::Put),
-        (5, 0) => Some(Row::Prefork),
-        (5, 1) => Some(Row::Cancel),
-        (6, 0) => Some(Row::Preexec),
-        _ => None,
+/// The table's rows, in order.
+const ROWS: [Row; 20] = [
+    Row::Guest,
+    Row::Join,
+    Row::Image,
+    Row::Sys,
+    Row::AskBytes,
+    Row::AskText,
+    Row::Put,
+    Row::Prefork,
+    Row::Cancel,
+    Row::Preexec,
+    Row::Hello,
+    Row::Joined,
+    Row::Imaged,
+    Row::Answered,
+    Row::GotBytes,
+    Row::GotText,
+    Row::Forked,
+    Row::Cancelled,
+    Row::ExecReady,
+    Row::Refused,
+];
+
+/// Which numbers a field of a header, or the length of a payload, may be.
+#[derive(Clone, Copy, Debug)]
+pub enum Allowed {
+    Only(u64),
+    /// The numbers from the first to the second, both included.
+    Within(u64, u64),
+    Below(u64),
+    Any,
+    /// The types of requests that may be refused: 0, 1, 5 and 6.
+    Refusable,
+    /// The lengths of up to eight words of eight bytes.
+    Words,
+}
+
+impl Allowed {
+    fn has(self, number: u64) -> bool
+        ensures { result ≡ allows self number }
+    {
+        match self {
+            Allowed::Only(n) => number == n,
+            Allowed::Within(least, most) => least <= number && number <= most,
+            Allowed::Below(limit) => number < limit,
+            Allowed::Any => true,
+            Allowed::Refusable => number == 0 || number == 1 || number == 5 || number == 6,
+            Allowed::Words => number <= 64 && number % 8 == 0,
+        }
+    }
+}
+
+/// What the header of a row's frame may say, and how long its payload may be.
+#[derive(Clone, Copy, Debug)]
+pub struct Shape {
+    pub class: u16,
+    pub kinds: Allowed,
+    pub words: Allowed,
+    pub sizes: Allowed,
+}
+
+impl Row {
+    fn shape(self) -> Shape
+        ensures { result ≡ (layout_of self).shape }
+    {
+        let (class, kinds, words, sizes) = match self {
+            Row::Guest => (0, Only(0), Only(0), Within(1, 255)),
+            Row::Join => (0, Only(0), Only(1), Within(17, 271)),
+            Row::Image => (0, Only(0), Only(2), Within(17, 271)),
+            Row::Sys => (0, Only(1), Any, Words),
+            Row::AskBytes => (0, Only(2), Below(INDEX_LIMIT), Only(16)),
+            Row::AskText => (0, Only(3), Below(INDEX_LIMIT), Only(16)),
+            Row::Put => (0, Only(4), Below(INDEX_LIMIT), Within(9, 131_048)),
+            Row::Prefork => (0, Only(5), Only(0), Only(0)),
+            Row::Cancel => (0, Only(5), Only(1), Only(16)),
+            Row::Preexec => (0, Only(6), Only(0), Only(0)),
+            Row::Hello => (1, Only(0), Only(0), Only(4)),
+            Row::Joined => (1, Only(0), Only(1), Only(4)),
+            Row::Imaged => (1, Only(0), Only(2), Only(12)),
+            Row::Answered => (1, Only(1), Any, Only(24)),
+            Row::GotBytes => (1, Only(2), Below(INDEX_LIMIT), Within(4, 131_048)),
+            Row::GotText => (1, Only(3), Below(INDEX_LIMIT), Within(4, 1027)),
+            Row::Forked => (1, Only(5), Only(0), Only(32)),
+            Row::Cancelled => (1, Only(5), Only(1), Only(0)),
+            Row::ExecReady => (1, Only(6), Only(0), Only(16)),
+            Row::Refused => (2, Refusable, Within(1, 7), Only(0)),
+        };
+        Shape {
+            class,
+            kinds,
+            words,
+            sizes,
+        }
+    }
+
+    /// Whether the row has this class and type.
+    fn is_of(self, class: u16, kind: u16) -> bool
+        ensures { result ≡ is_of class kind self }
+    {
+        let shape = self.shape();
+        shape.class == class && shape.kinds.has(u64::from(kind))
+    }
+
+    fn has_word(self, word: u32) -> bool
+        ensures { result ≡ has_word self word }
+    {
+        self.shape().words.has(u64::from(word))
+    }
+
+    /// Whether the row's payload may have this length.
+    fn may_have(self, len: u64) -> bool
+        ensures { result ≡ has_size self len }
+    {
+        self.shape().sizes.has(len)
     }
 }
 
 #[tactic(auto, unfolding(crate::specs::Reading::row_at))]
-fn response_row(kind: u16, word: u32) -> Option<Row>
-    ensures { result ≡ row_at 1 kind word }
-{
-    match (kind, word) {
-        (0, 0) => Some(Row::Hello),
-        (0, 1) => Some(Row::Joined),
-        (0, 2) => Some(Row::Imaged),
-        (1, _) => Some(Row::Answered),
-        (2, 0..=7) => Some(Row::GotBytes),
-        (3, 0..=7) => Some(Row::GotText),
-        (5, 0) => Some(Row::Forked),
-        (5, 1) => Some(Row::Cancelled),
-        (6, 0) => Some(Row::ExecReady),
-        _ => None,
-    }
-}
-
-#[tactic(auto, unfolding(crate::specs::Reading::row_at))]
-fn error_row(kind: u16, word: u32) -> Option<Row>
-    ensures { result ≡ row_at 2 kind word }
-{
-    match (kind, word) {
-        (0 | 1 | 5 | 6, 1..=7) => Some(Row::Refused),
-        _ => None,
-    }
-}
-
 fn find_row(class: u16, kind: u16, word: u32) -> Option<Row>
     ensures { result ≡ row_at class kind word }
 {
-    match class {
-        0 => request_row(kind, word),
-        1 => response_row(kind, word),
-        2 => error_row(kind, word),
-        _ => None,
-    }
+    ROWS.iter()
+        .copied()
+        .find(|row| row.is_of(class, kind) && row.has_word(word))
 }
 
 #[tactic(auto, unfolding(crate::specs::Reading::has_kind))]
 fn is_kind(class: u16, kind: u16) -> bool
     ensures { result ≡ has_kind class kind }
 {
-    match class {
-        0 => kind <= 6,
-        1 => kind <= 3 || kind == 5 || kind == 6,
-        2 => kind <= 1 || kind == 5 || kind == 6,
-        _ => false,
-    }
+    ROWS.iter().any(|row| row.is_of(class, kind))
 }
 
 fn named_row(class: u16, kind: u16, word: u32) -> Result<Row, FrameFault>
@@ -108,25 +175,6 @@ fn named_row(class: u16, kind: u16, word: u32) -> Result<Row, FrameFault>
         None if class > 2 => Err(FrameFault::Class(class)),
         None if is_kind(class, kind) => Err(FrameFault::Word { kind, word }),
         None => Err(FrameFault::Kind(kind)),
-    }
-}
-
-fn may_have(row: Row, len: u64) -> bool
-    ensures { result ≡ has_size row len }
-{
-    match row {
-        Row::Guest => 1 <= len && len <= 255,
-        Row::Join | Row::Image => 17 <= len && len <= 271,
-        Row::Sys => len <= 64 && len % 8 == 0,
-        Row::Put => 9 <= len && len <= 131_048,
-        Row::GotBytes => 4 <= len && len <= 131_048,
-        Row::GotText => 4 <= len && len <= 1_027,
-        Row::Prefork | Row::Preexec | Row::Cancelled | Row::Refused => len == 0,
-        Row::Hello | Row::Joined => len == 4,
-        Row::Imaged => len == 12,
-        Row::AskBytes | Row::AskText | Row::Cancel | Row::ExecReady => len == 16,
-        Row::Answered => len == 24,
-        Row::Forked => len == 32,
     }
 }
 
@@ -145,7 +193,7 @@ pub fn checked_row(h: &Header) -> Result<Row, FrameFault>
         return Err(FrameFault::TooLong(h.len));
     }
     let row = named_row(h.class, h.kind, h.word)?;
-    if may_have(row, h.len - 24) {
+    if row.may_have(h.len - 24) {
         Ok(row)
     } else {
         Err(FrameFault::Payload {

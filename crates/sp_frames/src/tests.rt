@@ -1,127 +1,127 @@
 // Values that no clause names: bytes and faults as the table of frames has them, and calls with ample memory.
 use crate::header::{Header, put_header};
-use crate::{BANNER, FrameFault, Framer, encode};
+use crate::{FrameFault, Framer, encode};
 use sp_base::Octets;
 use std::alloc::Global;
 use std::process::Abort;
 use std::test::Fail;
 
-/// A frame of each row, as bytes and as it is read.
-const FRAMES: [(&[u8], &str); 20] = [
+/// A frame of each row, as its bytes in hex digits and as it is read.
+const FRAMES: [(&str, &str); 20] = [
     (
-        b"\x19\0\0\0\0\0\0\0\x01\0\0\0\0\0\0\0\0\0\0\0\0\0\0\0a",
+        "19000000000000000100000000000000000000000000000061",
         "Frame { number: ReqNo(1), body: Guest { name: Octets { items: [97] } } }",
     ),
     (
-        b"*\0\0\0\0\0\0\0\x01\0\0\0\0\0\0\0\0\0\0\0\x01\0\0\0\x07\0\0\0\0\0\0\0\xff\xff\xff\xff\xff\xff\xff\xffbc",
+        "2a00000000000000010000000000000000000000010000000700000000000000ffffffffffffffff6263",
         "Frame { number: ReqNo(1), body: Join { cookie: Cookie { number: 7, salt: 18446744073709551615 }, name: Octets { items: [98, 99] } } }",
     ),
     (
-        b")\0\0\0\0\0\0\0\x01\0\0\0\0\0\0\0\0\0\0\0\x02\0\0\0\x07\0\0\0\0\0\0\0\xff\xff\xff\xff\xff\xff\xff\xffd",
+        "2900000000000000010000000000000000000000020000000700000000000000ffffffffffffffff64",
         "Frame { number: ReqNo(1), body: Image { cookie: Cookie { number: 7, salt: 18446744073709551615 }, name: Octets { items: [100] } } }",
     ),
     (
-        b"(\0\0\0\0\0\0\0\x02\x01\0\0\0\0\0\0\0\0\x01\0\x13\0\0\0\x03\0\0\0\0\0\0\0\x05\0\0\0\0\0\0\x80",
+        "28000000000000000201000000000000000001001300000003000000000000000500000000000080",
         "Frame { number: ReqNo(258), body: Sys { num: 19, words: Words { items: [3, 9223372036854775813] } } }",
     ),
     (
-        b"(\0\0\0\0\0\0\0\x02\0\0\0\0\0\0\0\0\0\x02\0\x07\0\0\0\0\x10\0\0\0\0\0\0\0\0\x01\0\0\0\0\0",
+        "28000000000000000200000000000000000002000700000000100000000000000000010000000000",
         "Frame { number: ReqNo(2), body: AskBytes { index: 7, addr: 4096, len: 65536 } }",
     ),
     (
-        b"(\0\0\0\0\0\0\0\x02\0\0\0\0\0\0\0\0\0\x03\0\0\0\0\0\x08\0\0\0\0\0\0\0\0\x04\0\0\0\0\0\0",
+        "28000000000000000200000000000000000003000000000008000000000000000004000000000000",
         "Frame { number: ReqNo(2), body: AskText { index: 0, addr: 8, max: 1024 } }",
     ),
     (
-        b"\x22\0\0\0\0\0\0\0\x02\0\0\0\0\0\0\0\0\0\x04\0\x01\0\0\0\0\x10\0\0\0\0\0\0\0x",
+        "22000000000000000200000000000000000004000100000000100000000000000078",
         "Frame { number: ReqNo(2), body: Put { index: 1, addr: 4096, bytes: Octets { items: [0, 120] } } }",
     ),
     (
-        b"\x18\0\0\0\0\0\0\0\x03\0\0\0\0\0\0\0\0\0\x05\0\0\0\0\0",
+        "180000000000000003000000000000000000050000000000",
         "Frame { number: ReqNo(3), body: Prefork }",
     ),
     (
-        b"(\0\0\0\0\0\0\0\x04\0\0\0\0\0\0\0\0\0\x05\0\x01\0\0\0\x07\0\0\0\0\0\0\0\xff\xff\xff\xff\xff\xff\xff\xff",
+        "2800000000000000040000000000000000000500010000000700000000000000ffffffffffffffff",
         "Frame { number: ReqNo(4), body: Cancel { cookie: Cookie { number: 7, salt: 18446744073709551615 } } }",
     ),
     (
-        b"\x18\0\0\0\0\0\0\0\x05\0\0\0\0\0\0\0\0\0\x06\0\0\0\0\0",
+        "180000000000000005000000000000000000060000000000",
         "Frame { number: ReqNo(5), body: Preexec }",
     ),
     (
-        b"\x1c\0\0\0\0\0\0\0\x01\0\0\0\0\0\0\0\x01\0\0\0\0\0\0\0\x02\x01\0\0",
+        "1c000000000000000100000000000000010000000000000002010000",
         "Frame { number: ReqNo(1), body: Hello { pid: Pid(258) } }",
     ),
     (
-        b"\x1c\0\0\0\0\0\0\0\x01\0\0\0\0\0\0\0\x01\0\0\0\x01\0\0\0\x03\0\0\0",
+        "1c000000000000000100000000000000010000000100000003000000",
         "Frame { number: ReqNo(1), body: Joined { pid: Pid(3) } }",
     ),
     (
-        b"$\0\0\0\0\0\0\0\x01\0\0\0\0\0\0\0\x01\0\0\0\x02\0\0\0\x03\0\0\0\x09\0\0\0\0\0\0\0",
+        "240000000000000001000000000000000100000002000000030000000900000000000000",
         "Frame { number: ReqNo(1), body: Imaged { pid: Pid(3), place: Place(9) } }",
     ),
     (
-        b"0\0\0\0\0\0\0\0\x02\0\0\0\0\0\0\0\x01\0\x01\0\x09\0\0\0\x07\0\0\0\0\0\0\0\x08\0\0\0\0\0\0\0\x09\0\0\0\0\0\0\0",
+        "300000000000000002000000000000000100010009000000070000000000000008000000000000000900000000000000",
         "Frame { number: ReqNo(2), body: Answered(Answer { err: 9, ret0: 7, ret1: 8, place: Place(9) }) }",
     ),
     (
-        b"\x1e\0\0\0\0\0\0\0\x02\0\0\0\0\0\0\0\x01\0\x02\0\x07\0\0\0\0\0\0\0\0e",
+        "1e0000000000000002000000000000000100020007000000000000000065",
         "Frame { number: ReqNo(2), body: GotBytes { index: 7, err: 0, bytes: Octets { items: [0, 101] } } }",
     ),
     (
-        b"\x1c\0\0\0\0\0\0\0\x02\0\0\0\0\0\0\0\x01\0\x03\0\0\0\0\0?\0\0\0",
+        "1c00000000000000020000000000000001000300000000003f000000",
         "Frame { number: ReqNo(2), body: GotText { index: 0, err: 63, bytes: Octets { items: [] } } }",
     ),
     (
-        b"8\0\0\0\0\0\0\0\x03\0\0\0\0\0\0\0\x01\0\x05\0\0\0\0\0\x07\0\0\0\0\0\0\0\xff\xff\xff\xff\xff\xff\xff\xff\x05\0\0\0\0\0\0\0\xff\xff\xff\xff\0\0\0\0",
+        "3800000000000000030000000000000001000500000000000700000000000000ffffffffffffffff0500000000000000ffffffff00000000",
         "Frame { number: ReqNo(3), body: Forked { cookie: Cookie { number: 7, salt: 18446744073709551615 }, place: Place(5), pid: Pid(4294967295) } }",
     ),
     (
-        b"\x18\0\0\0\0\0\0\0\x04\0\0\0\0\0\0\0\x01\0\x05\0\x01\0\0\0",
+        "180000000000000004000000000000000100050001000000",
         "Frame { number: ReqNo(4), body: Cancelled }",
     ),
     (
-        b"(\0\0\0\0\0\0\0\x05\0\0\0\0\0\0\0\x01\0\x06\0\0\0\0\0\x07\0\0\0\0\0\0\0\xff\xff\xff\xff\xff\xff\xff\xff",
+        "2800000000000000050000000000000001000600000000000700000000000000ffffffffffffffff",
         "Frame { number: ReqNo(5), body: ExecReady { cookie: Cookie { number: 7, salt: 18446744073709551615 } } }",
     ),
     (
-        b"\x18\0\0\0\0\0\0\0\x06\0\0\0\0\0\0\0\x02\0\x05\0\x04\0\0\0",
+        "180000000000000006000000000000000200050004000000",
         "Frame { number: ReqNo(6), body: Refused { kind: 5, why: ProcFull } }",
     ),
 ];
 
-/// Whole frames whose content is outside their rows, with what is wrong.
-const CONTENTS: [(&[u8], &str); 8] = [
+/// Whole frames in hex digits, whose content is outside their rows, with what is wrong.
+const CONTENTS: [(&str, &str); 8] = [
     (
-        b"\x1a\0\0\0\0\0\0\0\x01\0\0\0\0\0\0\0\0\0\0\0\0\0\0\0a\0",
+        "1a00000000000000010000000000000000000000000000006100",
         "a zero in a name",
     ),
     (
-        b")\0\0\0\0\0\0\0\x01\0\0\0\0\0\0\0\0\0\0\0\x01\0\0\0\x07\0\0\0\0\0\0\0\xff\xff\xff\xff\xff\xff\xff\xff\0",
+        "2900000000000000010000000000000000000000010000000700000000000000ffffffffffffffff00",
         "a zero in a name behind a cookie",
     ),
     (
-        b"\x1c\0\0\0\0\0\0\0\x01\0\0\0\0\0\0\0\x01\0\x02\0\0\0\0\0?\0\0\0",
+        "1c00000000000000010000000000000001000200000000003f000000",
         "an error that no bytes have",
     ),
     (
-        b"\x1d\0\0\0\0\0\0\0\x01\0\0\0\0\0\0\0\x01\0\x02\0\0\0\0\0\x0e\0\0\0x",
+        "1d00000000000000010000000000000001000200000000000e00000078",
         "bytes after an error",
     ),
     (
-        b"\x1c\0\0\0\0\0\0\0\x01\0\0\0\0\0\0\0\x01\0\x03\0\0\0\0\0\x02\0\0\0",
+        "1c000000000000000100000000000000010003000000000002000000",
         "an error that no text has",
     ),
     (
-        b"\x1d\0\0\0\0\0\0\0\x01\0\0\0\0\0\0\0\x01\0\x03\0\0\0\0\0?\0\0\0x",
+        "1d00000000000000010000000000000001000300000000003f00000078",
         "a text after an error",
     ),
     (
-        b"\x1e\0\0\0\0\0\0\0\x01\0\0\0\0\0\0\0\x01\0\x03\0\0\0\0\0\0\0\0\0x\0",
+        "1e0000000000000001000000000000000100030000000000000000007800",
         "a zero in a text",
     ),
     (
-        b"8\0\0\0\0\0\0\0\x01\0\0\0\0\0\0\0\x01\0\x05\0\0\0\0\0\x07\0\0\0\0\0\0\0\xff\xff\xff\xff\xff\xff\xff\xff\x05\0\0\0\0\0\0\0\0\0\0\0\x01\0\0\0",
+        "3800000000000000010000000000000001000500000000000700000000000000ffffffffffffffff05000000000000000000000001000000",
         "a process of 2^32",
     ),
 ];
@@ -163,23 +163,47 @@ const FAULTS: [(u64, u16, u16, u32, FrameFault); 33] = [
     (25, 2, 0, 1, FrameFault::Payload { kind: 0, len: 25 }),
 ];
 
+/// Each fault as text.
+const TEXTS: [(FrameFault, &str); 7] = [
+    (FrameFault::TooShort(23), "a length of 23 is below 24"),
+    (
+        FrameFault::TooLong(131_073),
+        "a length of 131073 is above 131072",
+    ),
+    (FrameFault::Class(3), "no class 3"),
+    (FrameFault::Kind(7), "no type 7 in this class"),
+    (
+        FrameFault::Word { kind: 5, word: 2 },
+        "type 5 has no word 2",
+    ),
+    (
+        FrameFault::Payload { kind: 0, len: 24 },
+        "a frame of type 0 with 24 bytes is outside its row",
+    ),
+    (FrameFault::NoMemory, "out of memory"),
+];
+
 #[test]
-fn banner_is_the_text(rt: HostRuntime) {
-    let text = [82, 85, 77, 80, 83, 80, 45, 48, 46, 52, 10];
-    assert_eq!(rt; BANNER, text);
+fn faults_as_text(rt: HostRuntime) -> Result<(), Fail> {
+    for (fault, text) in TEXTS {
+        let shown = format!(in rt.alloc(); "{fault}")?;
+        assert_eq!(rt; shown.as_str(), text);
+    }
+    Ok(())
 }
 
 #[test]
 fn frames_are_read_and_spelled(rt: HostRuntime) -> Result<(), Fail> {
-    for (bytes, text) in FRAMES {
+    for (digits, text) in FRAMES {
+        let bytes = hex::decode(rt.alloc(), digits)?;
         let mut framer = Framer::fresh(rt.alloc());
-        framer.feed(bytes)?;
+        framer.feed(&bytes)?;
         let frame = framer.next().ok_or("a frame is ready")?;
         let read = format!(in rt.alloc(); "{frame:?}")?;
         assert_eq!(rt; read.as_str(), text);
         let mut spelled = Octets::none(rt.alloc());
         encode(rt.alloc(), &frame, &mut spelled)?;
-        assert_eq!(rt; spelled.slice(), bytes);
+        assert_eq!(rt; spelled.slice(), bytes.as_slice());
         assert!(rt; framer.next().is_none(), "one frame was fed");
         assert!(rt; !framer.inside(), "nothing is left");
     }
@@ -188,9 +212,10 @@ fn frames_are_read_and_spelled(rt: HostRuntime) -> Result<(), Fail> {
 
 #[test]
 fn a_frame_is_ready_at_its_last_byte(rt: HostRuntime) -> Result<(), Fail> {
-    for (bytes, _) in FRAMES {
+    for (digits, _) in FRAMES {
+        let bytes = hex::decode(rt.alloc(), digits)?;
         let mut framer = Framer::fresh(rt.alloc());
-        for byte in bytes {
+        for byte in &bytes {
             assert!(rt; framer.next().is_none(), "the frame is not whole");
             framer.feed(&[*byte])?;
             assert!(rt;
@@ -206,8 +231,8 @@ fn a_frame_is_ready_at_its_last_byte(rt: HostRuntime) -> Result<(), Fail> {
 #[test]
 fn cuts_do_not_matter(rt: HostRuntime) -> Result<(), Fail> {
     let mut stream = Octets::none(rt.alloc());
-    for (bytes, _) in FRAMES {
-        stream.extend(bytes)?;
+    for (digits, _) in FRAMES {
+        stream.extend(&hex::decode(rt.alloc(), digits)?)?;
     }
     let stream = stream.slice();
     for cut in 0..stream.len() {
@@ -259,10 +284,11 @@ fn a_header_names_its_first_fault(rt: HostRuntime) -> Result<(), Fail> {
 
 #[test]
 fn a_content_is_judged_when_it_is_whole(rt: HostRuntime) -> Result<(), Fail> {
-    for (bytes, wrong) in CONTENTS {
+    for (digits, wrong) in CONTENTS {
+        let bytes = hex::decode(rt.alloc(), digits)?;
         let kind = u16::from(*bytes.get(18).ok_or(wrong)?);
         let len = bytes.len() as u64;
-        refuses(&rt, rt.alloc(), bytes, FrameFault::Payload { kind, len })?;
+        refuses(&rt, rt.alloc(), &bytes, FrameFault::Payload { kind, len })?;
     }
     Ok(())
 }

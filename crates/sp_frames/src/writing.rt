@@ -1,9 +1,8 @@
 //! A frame's spelling.
-ghost use Rattle.std.specs.Prelude.{◌≡◌, ◌++◌, length, OnOk, OnErr, IfOk};
+ghost use Rattle.std.specs.Prelude.{◌≡◌, ◌++◌, OnOk, OnErr, IfOk};
 ghost use Rattle.std.specs.List.{flat_map};
 ghost use Rattle.sp_frames.specs.Fields.{le64};
-ghost use Rattle.sp_frames.specs.Grammar.{BodyFits, parts_of, payload_of, header_of, spelling, Fits};
-ghost use Rattle.sp_frames.specs.Reading.{row_length};
+ghost use Rattle.sp_frames.specs.Grammar.{parts_of, payload_of, header_of, spelling, Fits};
 
 use crate::fields::{put_u32, put_u64};
 use crate::frame::{Body, Frame};
@@ -69,40 +68,13 @@ fn put_payload(out: &mut Octets, body: &Body) -> Result<(), NoMemory>
     Ok(())
 }
 
-fn row_len(body: &Body) -> usize
-    requires { BodyFits body.now }
-    ensures { result ≡ row_length body.now }
+/// The bytes behind a body's header.
+fn payload(alloc: Global, body: &Body) -> Result<Octets, NoMemory>
+    ensures { IfOk result (λ payload. payload ≡ payload_of body.now) }
 {
-    match body {
-        Body::Guest { name } => name.len(),
-        Body::Join { name, .. } => 16 + name.len(),
-        Body::Image { name, .. } => 16 + name.len(),
-        Body::Sys { words, .. } => 8 * words.slice().len(),
-        Body::AskBytes { .. } => 16,
-        Body::AskText { .. } => 16,
-        Body::Put { bytes, .. } => 8 + bytes.len(),
-        Body::Prefork => 0,
-        Body::Cancel { .. } => 16,
-        Body::Preexec => 0,
-        Body::Hello { .. } => 4,
-        Body::Joined { .. } => 4,
-        Body::Imaged { .. } => 12,
-        Body::Answered(_) => 24,
-        Body::GotBytes { bytes, .. } => 4 + bytes.len(),
-        Body::GotText { bytes, .. } => 4 + bytes.len(),
-        Body::Forked { .. } => 32,
-        Body::Cancelled => 0,
-        Body::ExecReady { .. } => 16,
-        Body::Refused { .. } => 0,
-    }
-}
-
-fn payload_len(body: &Body) -> usize
-    requires { BodyFits body.now }
-    ensures { result ≡ length (payload_of body.now) }
-{
-    let len = row_len(body);
-    len
+    let mut payload = Octets::none(alloc);
+    put_payload(&mut payload, body)?;
+    Ok(payload)
 }
 
 /// The class, the type and the word of a body, a row for each.
@@ -135,13 +107,14 @@ fn labels(body: &Body) -> (u16, u16, u32)
     }
 }
 
-fn header(frame: &Frame) -> Header
-    requires { Fits frame.now }
+fn header(frame: &Frame, payload: &[u8]) -> Header
+    requires fits { Fits frame.now }
+    requires payload { payload.now ≡ payload_of frame.now.body }
     ensures { result ≡ header_of frame.now }
 {
     let (class, kind, word) = labels(&frame.body);
     Header {
-        len: 24 + payload_len(&frame.body) as u64,
+        len: 24 + payload.len() as u64,
         number: frame.number.0,
         class,
         kind,
@@ -153,10 +126,11 @@ fn spelled(alloc: Global, frame: &Frame) -> Result<Octets, NoMemory>
     requires { Fits frame.now }
     ensures { IfOk result (λ text. text ≡ spelling frame.now) }
 {
-    let header = header(frame);
+    let payload = payload(alloc, &frame.body)?;
+    let header = header(frame, payload.slice());
     let mut text = Octets::from_vec(Vec::with_capacity(alloc, header.len as usize)?);
     put_header(&mut text, &header)?;
-    put_payload(&mut text, &frame.body)?;
+    text.extend(payload.slice())?;
     Ok(text)
 }
 

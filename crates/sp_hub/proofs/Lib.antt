@@ -1,5 +1,4 @@
 pub mod Journals
-pub mod Acts
 pub mod KernelLaws
 pub mod Performs
 pub mod Lists
@@ -10,3 +9,4 @@ pub mod Steps
 pub mod Machines
 pub mod LowestCall
 pub mod Replies
+pub mod Told

@@ -1,6 +1,6 @@
 -- A step of the connection at a place, as a step of the machine.
 use Rattle.std.proofs.Common.{◌≡◌, inl, inr, ℕ, ◌<◌, length, get_or, List, [], ◌∷◌, Some, refl, sym, ap, subst, ◌∙◌}
-use Rattle.std.specs.Prelude.{◌++◌, nat_lt, slice_get, slice_set, true, false, IfSome}
+use Rattle.std.specs.Prelude.{◌++◌, nat_lt, slice_get, slice_set, Bool, true, false, IfSome, IsTrue}
 use Rattle.std.specs.List.{AllByRecursion, list_all}
 use Rattle.std.proofs.lemmas.Option.{slice_get-get_or}
 use Rattle.sp_base.specs.declared.names.ConnNo.{ConnNo}
@@ -14,7 +14,7 @@ use Rattle.sp_hub.specs.declared.connection.OpenCall.{OpenCall}
 use Rattle.sp_hub.specs.declared.event.Reply.{Reply}
 use Rattle.sp_hub.specs.declared.event.Reply.TheVariants as reply
 use Rattle.sp_hub.specs.Connection.{fresh_connection, process_in}
-use Rattle.sp_hub.specs.Machine.{Machine, Played, PlaysOrStays, fresh_machine, place_of, after_step, step_of_found, step_at, on_connection, opened}
+use Rattle.sp_hub.specs.Machine.{Machine, Played, PlaysOrStays, fresh_machine, place_of, after_step, step_of_found, step_at, on_connection, opened_takes, opened}
 use Rattle.sp_hub.specs.Sound.{IsReached, IsSound}
 use Rattle.sp_hub.specs.Step.{Step, StepsOrStays}
 use Rattle.sp_hub.proofs.Lists.{set_itself}
@@ -65,28 +65,32 @@ pub steps : (m : Machine) (c : ConnNo) (otherwise : Reply) (step : List Entry �
     → ◌≡◌ {A = Played} (answer, written m place journal' x') (on_connection m c otherwise step)
 steps m c otherwise step place x answer journal' x' at here e = ap (after_step m place) e ∙ sym (found m c otherwise step place x at here)
 
-pub plays : (m : Machine) (c : ConnNo) (otherwise : Reply) (step : List Entry → Connection → Step) (place : ℕ) (x : Connection) (answer : Reply) (journal' : List Entry) (x' : Connection)
+pub plays : (takes : Reply → Bool) (m : Machine) (c : ConnNo) (otherwise : Reply) (step : List Entry → Connection → Step) (place : ℕ) (x : Connection) (answer : Reply) (journal' : List Entry) (x' : Connection)
     → place_of m.connections c ≡ Some place → slice_get m.connections place ≡ Some x
-    → StepsOrStays (step m.journal x) m.journal x answer journal' x'
-    → PlaysOrStays (on_connection m c otherwise step) m answer (written m place journal' x')
-plays m c otherwise step place x answer journal' x' at here (inl e) = inl (steps m c otherwise step place x answer journal' x' at here e)
-plays m c otherwise step place x answer journal' x' at here (inr k) = inr (k.0, rw (k.1, k.2, set_itself m.connections place x here) refl)
+    → StepsOrStays takes (step m.journal x) m.journal x answer journal' x'
+    → PlaysOrStays takes (on_connection m c otherwise step) m answer (written m place journal' x')
+plays takes m c otherwise step place x answer journal' x' at here (inl e) = inl (steps m c otherwise step place x answer journal' x' at here e)
+plays takes m c otherwise step place x answer journal' x' at here (inr k) = inr (record {
+  takes_some = rw (found m c otherwise step place x at here) k.takes_some;
+  answers = k.answers;
+  keeps = rw (k.keeps_journal, k.keeps_connection, set_itself m.connections place x here) refl;
+})
 
 pub step_keeps : (journal : List Entry) (x : Connection) (said : Step) (answer : Reply) (journal' : List Entry) (x' : Connection)
     → Keeps journal x said.journal said.connection → record { reply = answer; journal = journal'; connection = x' } ≡ said → Keeps journal x journal' x'
 step_keeps journal x said answer journal' x' keeps e = subst (λ (s : Step). Keeps journal x s.journal s.connection) (sym e) keeps
 
-pub plays_sound : (m : Machine) (place : ℕ) (x : Connection) (said : Step) (answer : Reply) (journal' : List Entry) (x' : Connection)
+pub plays_sound : (takes : Reply → Bool) (m : Machine) (place : ℕ) (x : Connection) (said : Step) (answer : Reply) (journal' : List Entry) (x' : Connection)
     → IsSound m → slice_get m.connections place ≡ Some x
     → (AllByRecursion Fits said.connection.queue → Keeps m.journal x said.journal said.connection)
     → (AllByRecursion Fits x.queue → AllByRecursion Fits x'.queue)
-    → StepsOrStays said m.journal x answer journal' x'
+    → StepsOrStays takes said m.journal x answer journal' x'
     → IsSound (written m place journal' x')
-plays_sound m place x said answer journal' x' sound here keeps fit (inl e) =
+plays_sound takes m place x said answer journal' x' sound here keeps fit (inl e) =
     let fits : AllByRecursion Fits said.connection.queue = subst (λ (s : Step). AllByRecursion Fits s.connection.queue) e (fit (sound.each place x here).fit) in
     sound_step m place x x' journal' sound here (step_keeps m.journal x said answer journal' x' (keeps fits) e)
-plays_sound m place x said answer journal' x' sound here keeps fit (inr k) =
-    sound_step m place x x' journal' sound here (rw (k.1, k.2) (same_keeps m.journal x (sound.each place x here) (owner_at m place x sound here)))
+plays_sound takes m place x said answer journal' x' sound here keeps fit (inr k) =
+    sound_step m place x x' journal' sound here (rw (k.keeps_journal, k.keeps_connection) (same_keeps m.journal x (sound.each place x here) (owner_at m place x sound here)))
 
 -- ---- a connection opens
 
@@ -96,3 +100,7 @@ not_opened m c e = rw e refl
 pub opened_is : (m : Machine) (c : ConnNo) (connections : List Connection) → list_all (λ x. nat_lt x.no.0 c.0) m.connections ≡ true → connections ≡ m.connections ++ fresh_connection c ∷ []
     → ◌≡◌ {A = Played} (reply.Nothing, record m { connections = connections }) (opened m c)
 opened_is m c connections above e = rw (above, e) refl
+
+-- to open a connection takes memory
+pub opened_wants : (m : Machine) (c : ConnNo) → list_all (λ x. nat_lt x.no.0 c.0) m.connections ≡ true → IsTrue (opened_takes (opened m c).0)
+opened_wants m c above = rw above refl

@@ -30,7 +30,7 @@ use Rattle.sp_hub.specs.Connection.{process_in, place_of_call}
 use Rattle.sp_hub.specs.Machine.{Machine, Played, PlaysOrStays, place_of, step_of_found, step_at, played, played_running}
 use Rattle.sp_hub.specs.Sound.{IsConnection, IsSound}
 use Rattle.sp_hub.specs.Step as step
-use Rattle.sp_hub.specs.Step.{answered_kind, refuse_step, attach_step, frame_step_by, frame_step, perform_step, work_call, work_at, work_step, take_from, take_step, end_by, end_step, no_process, nothing_read}
+use Rattle.sp_hub.specs.Step.{frame_takes, work_takes, answered_kind, refuse_step, attach_step, frame_step_by, frame_step, perform_step, work_call, work_at, work_step, take_from, take_step, end_by, end_step, no_process, nothing_read}
 use Rattle.sp_hub.specs.Verdict.{is_taken, verdict_of}
 use Rattle.sp_hub.proofs.Lists.{all_at}
 use Rattle.sp_hub.proofs.KernelLaws.{attach_acts, call_acts}
@@ -42,6 +42,18 @@ IsFair reply.NoMemory = ⊥
 IsFair (reply.Out f) = Fits f
 IsFair _ = Unit {0}
 
+none_of : (pid : Pid) (who : Who) (o : _) (i : _) (s : Step) → s ≢ None → entry_of_step pid who o i s ≢ None
+none_of pid who o i None ne = λ e. ne refl
+none_of pid who o i (Some s) ne = λ e. cc
+
+attach_takes_by : (journal : List Entry) (x : Connection) (f : Frame) (next : Option Entry) → next ≢ None → IsTrue (frame_takes (attach_step journal x f next).reply)
+attach_takes_by journal x f None ne = absurd (ne refl)
+attach_takes_by journal x f (Some e) ne = refl
+
+perform_takes_by : (journal : List Entry) (x : Connection) (place : ℕ) (t : OpenCall) (next : Option Entry) → next ≢ None → IsTrue (work_takes (perform_step journal x place t next).reply)
+perform_takes_by journal x place t None ne = absurd (ne refl)
+perform_takes_by journal x place t (Some e) ne = refl
+
 found_fair : (m : Machine) (otherwise : Reply) (step : List Entry → Connection → step.Step) (place : ℕ) (found : Option Connection) → IsFair otherwise
     → ((x : Connection) → found ≡ Some x → IsFair (step m.journal x).reply) → IsFair (step_of_found m otherwise step place found).0
 found_fair m otherwise step place None fair each = fair
@@ -52,13 +64,14 @@ at_fair : (m : Machine) (otherwise : Reply) (step : List Entry → Connection �
 at_fair m otherwise step None fair each = fair
 at_fair m otherwise step (Some place) fair each = found_fair m otherwise step place (slice_get m.connections place) fair (each place)
 
+-- a handshake takes memory
+pub attach_takes : (journal : List Entry) (x : Connection) (f : Frame) → IsTrue (frame_takes (attach_step journal x f (next_entry journal no_process (Request x.no f.number) op.Attach nothing_read)).reply)
+attach_takes journal x f = attach_takes_by journal x f (next_entry journal no_process (Request x.no f.number) op.Attach nothing_read)
+    (none_of no_process (Request x.no f.number) op.Attach nothing_read (act_attach (state_after journal)) (attach_acts (state_after journal)))
+
 attach_fair : (journal : List Entry) (x : Connection) (f : Frame) (next : Option Entry) → next ≢ None → IsFair (attach_step journal x f next).reply
 attach_fair journal x f None ne = absurd (ne refl)
 attach_fair journal x f (Some e) ne = tt
-
-none_of : (pid : Pid) (who : Who) (o : _) (i : _) (s : Step) → s ≢ None → entry_of_step pid who o i s ≢ None
-none_of pid who o i None ne = λ e. ne refl
-none_of pid who o i (Some s) ne = λ e. cc
 
 refuse_fair : (journal : List Entry) (x : Connection) (f : Frame) (kind : Option ℕ) (why : SpError) → IsFair (refuse_step journal x f kind why).reply
 refuse_fair journal x f None why = tt
@@ -75,6 +88,14 @@ frame_fair journal x f (verdict.Open call) = tt
 perform_fair : (journal : List Entry) (x : Connection) (place : ℕ) (t : OpenCall) (next : Option Entry) → next ≢ None → IsFair (perform_step journal x place t next).reply
 perform_fair journal x place t None ne = absurd (ne refl)
 perform_fair journal x place t (Some e) ne = tt
+
+-- the open call at a place takes memory to be performed
+pub work_call_takes : (journal : List Entry) (x : Connection) (place : ℕ) (t : OpenCall) (pid : Pid) → slice_get x.calls place ≡ Some t → AllByRecursion (λ t. IsTrue (is_taken t.call)) x.calls
+    → IsTrue (work_takes (work_call journal x place (slice_get x.calls place) (Some pid)).reply)
+work_call_takes journal x place t pid there taken = rw there
+    (perform_takes_by journal x place t (next_entry journal pid (Request x.no t.number) (op.Sys t.call) nothing_read)
+    (none_of pid (Request x.no t.number) (op.Sys t.call) nothing_read (act_call (state_after journal) pid.0 t.call [])
+    (call_acts (state_after journal) pid.0 t.call (all_at (λ t. IsTrue (is_taken t.call)) x.calls place t taken there))))
 
 call_fair : (journal : List Entry) (x : Connection) (place : ℕ) (found : Option OpenCall) (process : Option Pid) → ((t : OpenCall) → found ≡ Some t → IsTrue (is_taken t.call)) → IsFair (work_call journal x place found process).reply
 call_fair journal x place (Some t) (Some pid) built = perform_fair journal x place t (next_entry journal pid (Request x.no t.number) (op.Sys t.call) nothing_read)
@@ -110,13 +131,13 @@ pub take_is_fair : (m : Machine) (c : ConnNo) → IsSound m → IsFair (played m
 take_is_fair m c sound = played_fair m (event.Take c)
     (at_fair m reply.Closed take_step (place_of m.connections c) tt (λ i x h. take_fair m.journal x x.condition x.queue (sound.each i x h).fit))
 
-pub plays_ready : (said : Played) (m : Machine) (answer : Reply) (n : Machine) → IsFair said.0 → PlaysOrStays said m answer n → answer ≢ reply.NotReady
-plays_ready said m answer n fair (inl e) not = subst IsFair (sym (ap (λ (p : Played). p.0) e) ∙ not) fair
-plays_ready said m answer n fair (inr k) not = let wants = k.0 in cc
+pub plays_ready : (takes : Reply → Bool) (said : Played) (m : Machine) (answer : Reply) (n : Machine) → IsFair said.0 → PlaysOrStays takes said m answer n → answer ≢ reply.NotReady
+plays_ready takes said m answer n fair (inl e) not = subst IsFair (sym (ap (λ (p : Played). p.0) e) ∙ not) fair
+plays_ready takes said m answer n fair (inr k) not = let wants = k.answers in cc
 
-pub plays_fit : (said : Played) (m : Machine) (answer : Reply) (n : Machine) → IsFair said.0 → PlaysOrStays said m answer n → (f : Frame) → answer ≡ reply.Out f → Fits f
-plays_fit said m answer n fair (inl e) f out = subst IsFair (sym (ap (λ (p : Played). p.0) e) ∙ out) fair
-plays_fit said m answer n fair (inr k) f out = let wants = k.0 in absurd cc
+pub plays_fit : (takes : Reply → Bool) (said : Played) (m : Machine) (answer : Reply) (n : Machine) → IsFair said.0 → PlaysOrStays takes said m answer n → (f : Frame) → answer ≡ reply.Out f → Fits f
+plays_fit takes said m answer n fair (inl e) f out = subst IsFair (sym (ap (λ (p : Played). p.0) e) ∙ out) fair
+plays_fit takes said m answer n fair (inr k) f out = let wants = k.answers in absurd cc
 
 pub plays_free : (said : Played) (answer : Reply) (n : Machine) → IsFair said.0 → ◌≡◌ {A = Played} (answer, n) said → answer ≢ reply.NoMemory
 plays_free said answer n fair e wants = subst IsFair (sym (ap (λ (p : Played). p.0) e) ∙ wants) fair

@@ -17,7 +17,7 @@ use Rattle.sp_hub.specs.declared.connection.Condition.TheVariants as condition
 use Rattle.sp_hub.specs.declared.connection.Connection.{Connection}
 use Rattle.sp_hub.specs.declared.verdict.Verdict.{Verdict}
 use Rattle.sp_hub.specs.declared.verdict.Verdict.TheVariants.{Closed, Malformed, Refused, Attach, Open}
-use Rattle.sp_hub.specs.Connection.{process_in, is_fresh, takes_nothing, open_count}
+use Rattle.sp_hub.specs.Connection.{is_live, process_in, is_fresh, takes_nothing, open_count}
 use Rattle.sp_hub.specs.Verdict.{is_taken, verdict_of, body_verdict, guest_verdict, call_verdict, is_other_count}
 
 -- a handshake that is taken
@@ -54,6 +54,10 @@ holds : (b : Bool) → not b ≡ false → IsTrue b
 holds true e = refl
 holds false e = absurd cc
 
+live_speaks : (c : Condition) → not (is_live c) ≡ false → (pid : Pid) × (process_in c ≡ Some pid)
+live_speaks (condition.Live pid) e = (pid, refl)
+live_speaks _ e = absurd cc
+
 guest_attaches : (s : State) (x : Connection) (f : Frame) → x.last.0 < f.number.0 → guest_verdict s x ≡ Attach → Attaches s x f
 guest_attaches s x f later e =
     let a = otherwise (not (is_fresh x.condition)) Malformed _ Attach e (λ q. cc) in
@@ -68,9 +72,9 @@ call_passes x num words w bad ne e =
     let a = otherwise (is_fresh x.condition) Malformed _ w e bad in
     let b = otherwise (is_other_count (wanted_words num) (length words)) Malformed _ w a.1 bad in
     let c = otherwise (not (is_taken (call_of num words))) Malformed _ w b.1 bad in
-    let d = otherwise (is_none (process_in x.condition)) (Refused InExec) _ w c.1 (ne InExec) in
+    let d = otherwise (not (is_live x.condition)) (Refused InExec) _ w c.1 (ne InExec) in
     let f = otherwise (nat_le 64 (open_count x)) (Refused TryAgain) _ w d.1 (ne TryAgain) in
-    (f.1, holds (is_taken (call_of num words)) c.0, some_is (process_in x.condition) d.0)
+    (f.1, holds (is_taken (call_of num words)) c.0, live_speaks x.condition d.0)
 
 body_attaches : (s : State) (x : Connection) (f : Frame) (body : Body) → x.last.0 < f.number.0 → body_verdict s x body ≡ Attach → Attaches s x f
 body_attaches s x f (Guest name) later e = guest_attaches s x f later e

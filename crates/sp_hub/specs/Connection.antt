@@ -25,6 +25,11 @@ process_in (Live pid) = Some pid
 process_in (InExec pid) = Some pid
 process_in _ = None
 
+-- the connection speaks for a process that goes on as it is
+abbrev pub is_live : Condition → Bool
+is_live (Live pid) = true
+is_live _ = false
+
 -- no handshake was taken yet
 abbrev pub is_fresh : Condition → Bool
 is_fresh Fresh = true

@@ -5,3 +5,4 @@ pub mod Step
 pub mod Machine
 pub mod Task
 pub mod Sound
+pub mod Run

@@ -1,5 +1,5 @@
 -- The server machine: what it answers to an event, and what it is after it.
-use Rattle.std.specs.Prelude.{◌≡◌, ◌⊎◌, ℕ, ◌==◌, nat_lt, Bool, false, true, List, [], ◌∷◌, ◌++◌, slice_get, slice_set, Option, None, Some, if◌then◌else◌}
+use Rattle.std.specs.Prelude.{◌≡◌, ◌⊎◌, ℕ, ◌==◌, nat_lt, Bool, false, true, IsTrue, List, [], ◌∷◌, ◌++◌, slice_get, slice_set, Option, None, Some, if◌then◌else◌}
 use Rattle.std.specs.List.{list_all, list_any, position_from}
 use Rattle.sp_base.specs.declared.names.ConnNo.{ConnNo}
 use Rattle.kern_model.specs.declared.journal.Entry.{Entry}
@@ -9,7 +9,7 @@ use Rattle.sp_hub.specs.declared.event.Event.TheVariants.{Opened, Frame, Work, T
 use Rattle.sp_hub.specs.declared.event.Reply.{Reply}
 use Rattle.sp_hub.specs.declared.event.Reply.TheVariants as reply
 use Rattle.sp_hub.specs.Connection.{fresh_connection, speaks}
-use Rattle.sp_hub.specs.Step.{Step, frame_step, work_step, take_step, end_step, lost_step}
+use Rattle.sp_hub.specs.Step.{Step, frame_takes, work_takes, end_takes, frame_step, work_step, take_step, end_step, lost_step}
 
 -- the journal of the kernel, whose state is the one that the journal leaves; the connections, in the order in which they were opened; and whether the server has halted
 pub record Machine : Type 0 where
@@ -80,6 +80,35 @@ played_running m Halt = halt m
 abbrev pub played : Machine → Event → Played
 played m event = if m.halted then (reply.Closed, m) else played_running m event
 
--- the machine answers and goes on as said; or, as the one other way, it wants memory and stays as it was
-abbrev pub PlaysOrStays : Played → Machine → Reply → Machine → Type 0
-PlaysOrStays said old answer new = ((answer, new) ≡ said) ⊎ ((answer ≡ reply.NoMemory) × (new ≡ old))
+-- the reply to the opening of a connection that takes memory: it is open
+abbrev pub opened_takes : Reply → Bool
+opened_takes reply.Nothing = true
+opened_takes _ = false
+
+-- nothing takes memory
+abbrev pub takes_none : Reply → Bool
+takes_none _ = false
+
+-- the replies to an event that take memory
+abbrev pub takes_memory : Event → Reply → Bool
+takes_memory (Opened c) = opened_takes
+takes_memory (Frame c f salt) = frame_takes
+takes_memory (Work c r) = work_takes
+takes_memory (Take c) = takes_none
+takes_memory (Ended c finish) = end_takes
+takes_memory (Lost c) = end_takes
+takes_memory Halt = takes_none
+
+-- memory is wanted for what takes some, and the machine stays as it was
+pub record StaysWanting (takes : Reply → Bool) (said : Reply) (old : Machine) (answer : Reply) (new : Machine) : Type 0 where
+  pub takes_some : IsTrue (takes said)
+  pub answers : answer ≡ reply.NoMemory
+  pub keeps : new ≡ old
+
+-- the machine answers and goes on as said; or, as the one other way, it wants memory
+abbrev pub PlaysOrStays : (Reply → Bool) → Played → Machine → Reply → Machine → Type 0
+PlaysOrStays takes said old answer new = ((answer, new) ≡ said) ⊎ StaysWanting takes said.0 old answer new
+
+-- the machine plays an event: it answers and goes on as its definition says; or, where that takes memory, it may want it
+abbrev pub Plays : Machine → Event → Reply → Machine → Type 0
+Plays old event answer new = PlaysOrStays (takes_memory event) (played old event) old answer new

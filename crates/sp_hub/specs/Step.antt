@@ -1,5 +1,5 @@
 -- What an event on one connection does.
-use Rattle.std.specs.Prelude.{◌≡◌, ◌⊎◌, ℕ, List, [], ◌∷◌, ◌++◌, length, remove, slice_get, Option, None, Some}
+use Rattle.std.specs.Prelude.{◌≡◌, ◌⊎◌, ℕ, Bool, true, false, IsTrue, List, [], ◌∷◌, ◌++◌, length, remove, slice_get, Option, None, Some}
 use Rattle.sp_base.specs.declared.names.Answer.{Answer}
 use Rattle.sp_base.specs.declared.names.Pid.{Pid}
 use Rattle.sp_base.specs.declared.names.ReqNo.{ReqNo}
@@ -40,9 +40,33 @@ pub record Step : Type 0 where
 abbrev pub stays : Reply → List Entry → Connection → Step
 stays answer journal x = record { reply = answer; journal = journal; connection = x }
 
--- the step is taken as said; or, as the one other way, memory is wanted and everything stays as it was
-abbrev pub StepsOrStays : Step → List Entry → Connection → Reply → List Entry → Connection → Type 0
-StepsOrStays said journal x answer journal' x' = (record { reply = answer; journal = journal'; connection = x' } ≡ said) ⊎ ((answer ≡ reply.NoMemory) × (journal' ≡ journal) × (x' ≡ x))
+-- memory is wanted for a step that takes some, and everything stays as it was
+pub record Wants (takes : Reply → Bool) (said : Reply) (journal : List Entry) (x : Connection) (answer : Reply) (journal' : List Entry) (x' : Connection) : Type 0 where
+  pub takes_some : IsTrue (takes said)
+  pub answers : answer ≡ reply.NoMemory
+  pub keeps_journal : journal' ≡ journal
+  pub keeps_connection : x' ≡ x
+
+-- the step is taken as said; or, as the one other way, it wants memory
+abbrev pub StepsOrStays : (Reply → Bool) → Step → List Entry → Connection → Reply → List Entry → Connection → Type 0
+StepsOrStays takes said journal x answer journal' x' = (record { reply = answer; journal = journal'; connection = x' } ≡ said) ⊎ Wants takes said.reply journal x answer journal' x'
+
+-- the replies to a frame that take memory: an operation is performed, a call is open, an error is queued
+abbrev pub frame_takes : Reply → Bool
+frame_takes (reply.Task r) = true
+frame_takes reply.Done = true
+frame_takes (reply.Refused why) = true
+frame_takes _ = false
+
+-- the reply to work that takes memory: a call is performed
+abbrev pub work_takes : Reply → Bool
+work_takes reply.Done = true
+work_takes _ = false
+
+-- the reply to an end that takes memory, by now: the process's exit is performed
+abbrev pub end_takes : Reply → Bool
+end_takes reply.Nothing = true
+end_takes _ = false
 
 -- an operation that reads no memory
 abbrev pub nothing_read : Ins

@@ -12,7 +12,7 @@ use Rattle.kern_model.specs.State.{State}
 use Rattle.sp_hub.specs.declared.connection.Connection.{Connection}
 use Rattle.sp_hub.specs.declared.verdict.Verdict.{Verdict}
 use Rattle.sp_hub.specs.declared.verdict.Verdict.TheVariants.{Closed, Malformed, Refused, Attach, Open}
-use Rattle.sp_hub.specs.Connection.{process_in, is_fresh, takes_nothing, open_count}
+use Rattle.sp_hub.specs.Connection.{is_live, is_fresh, takes_nothing, open_count}
 
 -- the calls that the server takes by now
 abbrev pub is_taken : Call → Bool
@@ -32,7 +32,7 @@ call_verdict x num words =
     if is_fresh x.condition then Malformed
     else if is_other_count (wanted_words num) (length words) then Malformed
     else if not (is_taken (call_of num words)) then Malformed
-    else if is_none (process_in x.condition) then Refused InExec
+    else if not (is_live x.condition) then Refused InExec
     else if nat_le 64 (open_count x) then Refused TryAgain
     else Open (call_of num words)
 

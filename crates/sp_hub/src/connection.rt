@@ -1,6 +1,6 @@
 ghost use Rattle.std.specs.Prelude.{◌≡◌, ◌<◌, ◌==◌, nat_le, length, count_by, IfSome};
 ghost use Rattle.std.specs.List.{position_from};
-ghost use Rattle.sp_hub.specs.Connection.{fresh_connection, over, drained, process_in, is_fresh, takes_nothing, speaks, is_response, open_count, place_of_call};
+ghost use Rattle.sp_hub.specs.Connection.{is_live, fresh_connection, over, drained, process_in, is_fresh, takes_nothing, speaks, is_response, open_count, place_of_call};
 
 use sp_base::{Call, ConnNo, Items, Pid, ReqNo};
 use sp_frames::{Body, Frame};
@@ -56,6 +56,13 @@ impl Condition {
             Condition::Live(pid) | Condition::InExec(pid) => Some(pid),
             _ => None,
         }
+    }
+
+    /// Whether it speaks for a process that goes on as it is.
+    pub(crate) fn is_live(self) -> bool
+        ensures { result ≡ is_live self }
+    {
+        matches!(self, Condition::Live(_))
     }
 
     /// Whether no handshake was taken yet.

@@ -1,4 +1,7 @@
-use sp_base::{ConnNo, ReqNo, SpError};
+ghost use Rattle.std.specs.Prelude.{◌≡◌, ◌↔◌, IfOk, IsErr};
+ghost use Rattle.sp_hub.specs.declared.event.Reply.{Reply};
+
+use sp_base::{ConnNo, NoMemory, ReqNo, SpError};
 use sp_frames::{Frame, FrameFault};
 
 /// How a connection's input ended.
@@ -52,4 +55,17 @@ pub enum Reply {
     Closed,
     /// Memory was refused, and nothing changed.
     NoMemory,
+}
+
+impl Reply {
+    /// The reply, or the error where memory was refused.
+    pub fn or_no_memory(self) -> Result<Reply, NoMemory>
+        ensures ok { IfOk result (λ reply. reply ≡ self) }
+        ensures memory { IsErr result ↔ (self ≡ Reply.NoMemory) }
+    {
+        match self {
+            Reply::NoMemory => Err(NoMemory),
+            reply => Ok(reply),
+        }
+    }
 }

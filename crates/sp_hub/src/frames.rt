@@ -7,14 +7,15 @@ ghost use Rattle.kern_model.specs.declared.operation.Op.TheVariants as op;
 ghost use Rattle.kern_model.specs.Journal.{next_entry, state_after};
 ghost use Rattle.sp_base.specs.Table.{at};
 ghost use Rattle.sp_hub.specs.Connection.{process_in};
-ghost use Rattle.sp_hub.specs.Step.{StepsOrStays, attach_step, open_step, frame_step, hello, no_process, nothing_read};
+ghost use Rattle.sp_hub.specs.Step.{StepsOrStays, frame_takes, attach_step, open_step, frame_step, hello, no_process, nothing_read};
 
 use crate::connection::{Condition, Connection, OpenCall};
 use crate::event::Reply;
-use crate::kernel::{Acted, Kernel};
+use crate::kernel::{self, Acted};
 use crate::refusals::{answered_kind, drain, last_error, refuse};
 use crate::room::take_room;
 use crate::verdict::{self, Verdict};
+use kern_calls::Kernel;
 use kern_model::{Ins, Op, Who};
 use sp_base::{Call, Items, Pid, ReqNo, SpError};
 use sp_frames::{Body, Frame};
@@ -32,7 +33,7 @@ fn hello(number: ReqNo, pid: Pid) -> Frame
 
 /// Performs a handshake: makes the connection's process and queues the response.
 fn attach(kernel: &mut Kernel, connection: &mut Connection, frame: &Frame) -> Reply
-    ensures step { StepsOrStays (attach_step kernel.old connection.old frame.now (next_entry kernel.old no_process (Request connection.old.no frame.now.number) op.Attach nothing_read)) kernel.old connection.old result kernel.new connection.new }
+    ensures step { StepsOrStays frame_takes (attach_step kernel.old.items connection.old frame.now (next_entry kernel.old.items no_process (Request connection.old.no frame.now.number) op.Attach nothing_read)) kernel.old.items connection.old result kernel.new.items connection.new }
     ensures fit { AllByRecursion Fits connection.old.queue → AllByRecursion Fits connection.new.queue }
 {
     let number = frame.number;
@@ -41,7 +42,13 @@ fn attach(kernel: &mut Kernel, connection: &mut Connection, frame: &Frame) -> Re
         return Reply::NoMemory;
     };
     let who = Who::Request(connection.no, number);
-    match kernel.act(Pid(0), who, Op::Attach, Ins::Given(Items::none(alloc))) {
+    match kernel::act(
+        kernel,
+        Pid(0),
+        who,
+        Op::Attach,
+        Ins::Given(Items::none(alloc)),
+    ) {
         Acted::Done(answer) => {
             let pid = Pid(answer.ret0 as u32);
             connection.condition = Condition::Live(pid);
@@ -62,7 +69,7 @@ fn attach(kernel: &mut Kernel, connection: &mut Connection, frame: &Frame) -> Re
 
 /// Opens a call, whatever the journal.
 fn open(connection: &mut Connection, frame: &Frame, call: Call) -> Reply
-    ensures step { (journal : List Entry) → StepsOrStays (open_step journal connection.old frame.now call) journal connection.old result journal connection.new }
+    ensures step { (journal : List Entry) → StepsOrStays frame_takes (open_step journal connection.old frame.now call) journal connection.old result journal connection.new }
     ensures queue { connection.new.queue ≡ connection.old.queue }
 {
     let number = frame.number;
@@ -77,8 +84,8 @@ fn open(connection: &mut Connection, frame: &Frame, call: Call) -> Reply
 
 /// A frame comes over a connection.
 pub fn frame(kernel: &mut Kernel, connection: &mut Connection, frame: &Frame) -> Reply
-    requires live { IfSome (process_in connection.old.condition) (λ pid. IsSome (at (state_after kernel.old).processes pid.0)) }
-    ensures step { StepsOrStays (frame_step kernel.old connection.old frame.now) kernel.old connection.old result kernel.new connection.new }
+    requires live { IfSome (process_in connection.old.condition) (λ pid. IsSome (at (state_after kernel.old.items).processes pid.0)) }
+    ensures step { StepsOrStays frame_takes (frame_step kernel.old.items connection.old frame.now) kernel.old.items connection.old result kernel.new.items connection.new }
     ensures fit { AllByRecursion Fits connection.old.queue → AllByRecursion Fits connection.new.queue }
 {
     match verdict::on_frame(kernel, connection, frame) {

@@ -5,15 +5,15 @@ ghost use Rattle.kern_model.specs.Journal.{IsLegal, HasOwnKeys};
 ghost use Rattle.sp_frames.specs.Grammar.{Fits};
 ghost use Rattle.sp_frames.specs.declared.frame.Frame.{Frame};
 ghost use Rattle.sp_hub.specs.Connection.{fresh_connection, speaks};
-ghost use Rattle.sp_hub.specs.Machine.{PlaysOrStays, fresh_machine, running, place_of, on_connection, opened, played};
+ghost use Rattle.sp_hub.specs.Machine.{Plays, PlaysOrStays, opened_takes, fresh_machine, running, place_of, on_connection, opened, played};
 ghost use Rattle.sp_hub.specs.Sound.{IsSound};
-ghost use Rattle.sp_hub.specs.Step.{frame_step, work_step, take_step, end_step};
+ghost use Rattle.sp_hub.specs.Step.{frame_takes, work_takes, end_takes, frame_step, work_step, take_step, end_step};
 ghost use Rattle.sp_hub.specs.Task.{IsLowest, open_calls};
 
 use crate::connection::Connection;
 use crate::event::{Event, Finish, Reply};
-use crate::kernel::Kernel;
 use crate::{ends, frames, tasks, work};
+use kern_calls::Kernel;
 use kern_model::Entry;
 use sp_base::{ConnNo, NoMemory, ReqNo};
 use sp_frames::Frame;
@@ -34,9 +34,9 @@ impl Model for Hub {
 
     ghost Value = { Machine };
 
-    ghost view = { λ h. machine_of h.kernel h.connections.items h.halted };
+    ghost view = { λ h. machine_of h.kernel.items h.connections.items h.halted };
 
-    ghost invariant = { λ h. IsSound (running h.kernel h.connections.items) };
+    ghost invariant = { λ h. IsSound (running h.kernel.items h.connections.items) };
 }
 
 /// Where a connection stands.
@@ -79,9 +79,9 @@ fn add(alloc: Global, connections: &mut Vec<Connection>, no: ConnNo) -> Result<(
 
 /// A connection opens.
 fn open_in(kernel: &Kernel, connections: &mut Vec<Connection>, no: ConnNo) -> Reply
-    requires sound { IsSound (running kernel.now connections.old.items) }
-    ensures plays { PlaysOrStays (opened (running kernel.now connections.old.items) no) (running kernel.now connections.old.items) result (running kernel.now connections.new.items) }
-    ensures sound { IsSound (running kernel.now connections.new.items) }
+    requires sound { IsSound (running kernel.now.items connections.old.items) }
+    ensures plays { PlaysOrStays opened_takes (opened (running kernel.now.items connections.old.items) no) (running kernel.now.items connections.old.items) result (running kernel.now.items connections.new.items) }
+    ensures sound { IsSound (running kernel.now.items connections.new.items) }
 {
     if !is_above(connections, no) {
         return Reply::Closed;
@@ -99,9 +99,9 @@ fn frame_in(
     no: ConnNo,
     frame: &Frame,
 ) -> Reply
-    requires sound { IsSound (running kernel.old connections.old.items) }
-    ensures plays { PlaysOrStays (on_connection (running kernel.old connections.old.items) no Reply.Closed (λ journal x. frame_step journal x frame.now)) (running kernel.old connections.old.items) result (running kernel.new connections.new.items) }
-    ensures sound { IsSound (running kernel.new connections.new.items) }
+    requires sound { IsSound (running kernel.old.items connections.old.items) }
+    ensures plays { PlaysOrStays frame_takes (on_connection (running kernel.old.items connections.old.items) no Reply.Closed (λ journal x. frame_step journal x frame.now)) (running kernel.old.items connections.old.items) result (running kernel.new.items connections.new.items) }
+    ensures sound { IsSound (running kernel.new.items connections.new.items) }
 {
     let Some(place) = place_of(connections, no) else {
         return Reply::Closed;
@@ -117,9 +117,9 @@ fn work_in(
     no: ConnNo,
     number: ReqNo,
 ) -> Reply
-    requires sound { IsSound (running kernel.old connections.old.items) }
-    ensures plays { PlaysOrStays (on_connection (running kernel.old connections.old.items) no Reply.Nothing (λ journal x. work_step journal x number)) (running kernel.old connections.old.items) result (running kernel.new connections.new.items) }
-    ensures sound { IsSound (running kernel.new connections.new.items) }
+    requires sound { IsSound (running kernel.old.items connections.old.items) }
+    ensures plays { PlaysOrStays work_takes (on_connection (running kernel.old.items connections.old.items) no Reply.Nothing (λ journal x. work_step journal x number)) (running kernel.old.items connections.old.items) result (running kernel.new.items connections.new.items) }
+    ensures sound { IsSound (running kernel.new.items connections.new.items) }
 {
     let Some(place) = place_of(connections, no) else {
         return Reply::Nothing;
@@ -135,9 +135,9 @@ fn end_in(
     no: ConnNo,
     finish: Finish,
 ) -> Reply
-    requires sound { IsSound (running kernel.old connections.old.items) }
-    ensures plays { PlaysOrStays (on_connection (running kernel.old connections.old.items) no Reply.Closed (λ journal x. end_step journal x finish)) (running kernel.old connections.old.items) result (running kernel.new connections.new.items) }
-    ensures sound { IsSound (running kernel.new connections.new.items) }
+    requires sound { IsSound (running kernel.old.items connections.old.items) }
+    ensures plays { PlaysOrStays end_takes (on_connection (running kernel.old.items connections.old.items) no Reply.Closed (λ journal x. end_step journal x finish)) (running kernel.old.items connections.old.items) result (running kernel.new.items connections.new.items) }
+    ensures sound { IsSound (running kernel.new.items connections.new.items) }
 {
     let Some(place) = place_of(connections, no) else {
         return Reply::Closed;
@@ -184,7 +184,7 @@ impl Hub {
     /// Closed comes where its number isn't above every number that was opened before, or the server has halted.
     /// After it and after NoMemory all is as it was.
     pub fn opened(&mut self, no: ConnNo) -> Reply
-        ensures plays { PlaysOrStays (played self.old (Event.Opened no)) self.old result self.new }
+        ensures plays { Plays self.old (Event.Opened no) result self.new }
     {
         if self.halted {
             return Reply::Closed;
@@ -200,7 +200,7 @@ impl Hub {
     /// opened, or the server has halted. After Closed and NoMemory all is as it was. By now no frame makes a cookie, and the salt
     /// isn't used.
     pub fn frame(&mut self, no: ConnNo, frame: Frame, salt: u64) -> Reply
-        ensures plays { PlaysOrStays (played self.old (Event.Frame no frame salt)) self.old result self.new }
+        ensures plays { Plays self.old (Event.Frame no frame salt) result self.new }
         ensures ready { result ≢ Reply.NotReady }
     {
         let _ = salt;
@@ -215,7 +215,7 @@ impl Hub {
     /// Nothing comes where no such call is open, and Closed where the server has halted. After these and after NoMemory all is as
     /// it was; a call that got no memory stays open.
     pub fn work(&mut self, no: ConnNo, number: ReqNo) -> Reply
-        ensures plays { PlaysOrStays (played self.old (Event.Work no number)) self.old result self.new }
+        ensures plays { Plays self.old (Event.Work no number) result self.new }
         ensures ready { result ≢ Reply.NotReady }
     {
         if self.halted {
@@ -245,7 +245,7 @@ impl Hub {
     /// behind them the error Malformed under number 0 and type 0. Closed comes where the connection is over already or was never
     /// opened, or the server has halted. After it and after NoMemory all is as it was.
     pub fn ended(&mut self, no: ConnNo, finish: Finish) -> Reply
-        ensures plays { PlaysOrStays (played self.old (Event.Ended no finish)) self.old result self.new }
+        ensures plays { Plays self.old (Event.Ended no finish) result self.new }
     {
         if self.halted {
             return Reply::Closed;
@@ -258,7 +258,7 @@ impl Hub {
     /// Closed comes where the connection is over already or was never opened, or the server has halted. After it and after
     /// NoMemory all is as it was.
     pub fn lost(&mut self, no: ConnNo) -> Reply
-        ensures plays { PlaysOrStays (played self.old (Event.Lost no)) self.old result self.new }
+        ensures plays { Plays self.old (Event.Lost no) result self.new }
     {
         if self.halted {
             return Reply::Closed;
@@ -294,7 +294,7 @@ impl Hub {
 
     /// An event happens; the answer is that of the method of the event's name.
     pub fn play(&mut self, event: Event) -> Reply
-        ensures plays { PlaysOrStays (played self.old event) self.old result self.new }
+        ensures plays { Plays self.old event result self.new }
         ensures ready { result ≢ Reply.NotReady }
         ensures fits { (frame : Frame) → result ≡ Reply.Out frame → Fits frame }
     {

@@ -1,17 +1,18 @@
-ghost use Rattle.std.specs.Prelude.{◌≡◌, true, List, IfSome, IsSome};
+ghost use Rattle.std.specs.Prelude.{◌≡◌, true, Bool, IsTrue, List, IfSome, IsSome};
+ghost use Rattle.sp_hub.specs.declared.event.Reply.{Reply};
 ghost use Rattle.std.specs.List.{AllByRecursion};
 ghost use Rattle.sp_frames.specs.Grammar.{Fits, may_be_refused};
 ghost use Rattle.kern_model.specs.declared.journal.Entry.{Entry};
 ghost use Rattle.kern_model.specs.Journal.{state_after};
 ghost use Rattle.sp_base.specs.Table.{at};
 ghost use Rattle.sp_hub.specs.Connection.{process_in};
-ghost use Rattle.sp_hub.specs.Step.{StepsOrStays, answered_kind, refusal, last_error, drain_step, refuse_step};
+ghost use Rattle.sp_hub.specs.Step.{StepsOrStays, frame_takes, answered_kind, refusal, last_error, drain_step, refuse_step};
 
 use crate::connection::Connection;
 use crate::ends;
 use crate::event::Reply;
-use crate::kernel::Kernel;
 use crate::room::take_room;
+use kern_calls::Kernel;
 use sp_base::{ReqNo, SpError};
 use sp_frames::{Body, Frame};
 
@@ -57,9 +58,10 @@ pub fn last_error(number: ReqNo, kind: Option<u16>) -> Frame
 ///
 /// The room for the error is taken before the exit is performed.
 pub fn drain(kernel: &mut Kernel, connection: &mut Connection, reply: Reply, error: Frame) -> Reply
-    requires live { IfSome (process_in connection.old.condition) (λ pid. IsSome (at (state_after kernel.old).processes pid.0)) }
+    requires live { IfSome (process_in connection.old.condition) (λ pid. IsSome (at (state_after kernel.old.items).processes pid.0)) }
     requires fits { Fits error }
-    ensures step { StepsOrStays (drain_step reply kernel.old connection.old error) kernel.old connection.old result kernel.new connection.new }
+    ensures step { (takes : Reply → Bool) → IsTrue (takes reply)
+        → StepsOrStays takes (drain_step reply kernel.old.items connection.old error) kernel.old.items connection.old result kernel.new.items connection.new }
     ensures fit { AllByRecursion Fits connection.old.queue → AllByRecursion Fits connection.new.queue }
 {
     let Some(queue) = take_room(kernel.alloc(), &mut connection.queue) else {
@@ -76,7 +78,7 @@ pub fn drain(kernel: &mut Kernel, connection: &mut Connection, reply: Reply, err
 
 /// Refuses a request: its error is queued and its number is used up, whatever the journal.
 pub fn refuse(kernel: &Kernel, connection: &mut Connection, frame: &Frame, why: SpError) -> Reply
-    ensures step { StepsOrStays (refuse_step kernel.now connection.old frame.now (answered_kind frame.now.body) why) kernel.now connection.old result kernel.now connection.new }
+    ensures step { StepsOrStays frame_takes (refuse_step kernel.now.items connection.old frame.now (answered_kind frame.now.body) why) kernel.now.items connection.old result kernel.now.items connection.new }
     ensures fit { AllByRecursion Fits connection.old.queue → AllByRecursion Fits connection.new.queue }
 {
     let Some(kind) = answered_kind(&frame.body) else {

@@ -3,7 +3,7 @@ ghost use Rattle.kern_model.specs.Journal.{state_after};
 ghost use Rattle.sp_hub.specs.Verdict.{call_verdict, guest_verdict, is_taken, verdict_of};
 
 use crate::connection::Connection;
-use crate::kernel::Kernel;
+use kern_calls::Kernel;
 use sp_base::{Call, SpError, Words};
 use sp_frames::{Body, Frame};
 
@@ -44,7 +44,7 @@ fn on_call(connection: &Connection, num: u32, words: &Words) -> Verdict
     };
     if !is_taken(&call) {
         Verdict::Malformed
-    } else if connection.condition.process().is_none() {
+    } else if !connection.condition.is_live() {
         Verdict::Refused(SpError::InExec)
     } else if connection.is_busy() {
         Verdict::Refused(SpError::TryAgain)
@@ -55,7 +55,7 @@ fn on_call(connection: &Connection, num: u32, words: &Words) -> Verdict
 
 /// What becomes of a handshake.
 fn on_guest(kernel: &Kernel, connection: &Connection) -> Verdict
-    ensures { result ≡ guest_verdict (state_after kernel.now) connection.now }
+    ensures { result ≡ guest_verdict (state_after kernel.now.items) connection.now }
 {
     if !connection.condition.is_fresh() {
         Verdict::Malformed
@@ -68,7 +68,7 @@ fn on_guest(kernel: &Kernel, connection: &Connection) -> Verdict
 
 /// What becomes of a frame.
 pub fn on_frame(kernel: &Kernel, connection: &Connection, frame: &Frame) -> Verdict
-    ensures { result ≡ verdict_of (state_after kernel.now) connection.now frame.now }
+    ensures { result ≡ verdict_of (state_after kernel.now.items) connection.now frame.now }
 {
     if connection.condition.takes_nothing() {
         return Verdict::Closed;

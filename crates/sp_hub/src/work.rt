@@ -4,32 +4,17 @@ ghost use Rattle.sp_frames.specs.Grammar.{Fits};
 ghost use Rattle.kern_model.specs.Journal.{state_after};
 ghost use Rattle.sp_base.specs.Table.{at};
 ghost use Rattle.sp_hub.specs.Connection.{process_in};
-ghost use Rattle.sp_hub.specs.Step.{StepsOrStays, answered, work_call, work_step};
+ghost use Rattle.sp_hub.specs.Step.{StepsOrStays, work_takes, answered, work_call, work_step};
 ghost use Rattle.sp_hub.specs.Verdict.{is_taken};
 
 use crate::connection::{Connection, OpenCall};
 use crate::event::Reply;
-use crate::kernel::{Acted, Kernel};
+use crate::kernel::{self, Acted};
 use crate::room::take_room;
+use kern_calls::Kernel;
 use kern_model::{Ins, Op, Who};
-use sp_base::{Answer, Call, Items, Pid, ReqNo};
+use sp_base::{Answer, Items, Pid, ReqNo};
 use sp_frames::{Body, Frame};
-
-/// The same call; the journal keeps it while the connection still has it.
-fn copy(call: &Call) -> Call
-    requires { IsTrue (is_taken call.now) }
-    ensures { result ≡ call.now }
-{
-    match call {
-        Call::Getpid => Call::Getpid,
-        Call::Close { fd } => Call::Close { fd: *fd },
-        Call::Unknown { num, words } => Call::Unknown {
-            num: *num,
-            words: words.copy(),
-        },
-        _ => unreachable!(),
-    }
-}
 
 /// The response of a call.
 fn response(number: ReqNo, answer: Answer) -> Frame
@@ -45,9 +30,9 @@ fn response(number: ReqNo, answer: Answer) -> Frame
 /// Performs the open call at a place and queues its response; the room in the queue is taken first.
 fn perform(kernel: &mut Kernel, connection: &mut Connection, place: usize, pid: Pid) -> Reply
     requires place { place < length connection.old.calls }
-    requires live { IsSome (at (state_after kernel.old).processes pid.0) }
+    requires live { IsSome (at (state_after kernel.old.items).processes pid.0) }
     requires taken { AllByRecursion (λ t. IsTrue (is_taken t.call)) connection.old.calls }
-    ensures step { StepsOrStays (work_call kernel.old connection.old place (slice_get connection.old.calls place) (Some pid)) kernel.old connection.old result kernel.new connection.new }
+    ensures step { StepsOrStays work_takes (work_call kernel.old.items connection.old place (slice_get connection.old.calls place) (Some pid)) kernel.old.items connection.old result kernel.new.items connection.new }
     ensures fit { AllByRecursion Fits connection.old.queue → AllByRecursion Fits connection.new.queue }
 {
     let alloc = kernel.alloc();
@@ -56,9 +41,9 @@ fn perform(kernel: &mut Kernel, connection: &mut Connection, place: usize, pid: 
     };
     let open = &connection.calls.slice()[place];
     let number = open.number;
-    let op = Op::Sys(copy(&open.call));
+    let op = Op::Sys(open.call.copy());
     let who = Who::Request(connection.no, number);
-    match kernel.act(pid, who, op, Ins::Given(Items::none(alloc))) {
+    match kernel::act(kernel, pid, who, op, Ins::Given(Items::none(alloc))) {
         Acted::Done(answer) => {
             connection.calls.take_at(place);
             connection.queue = queue.with(response(number, answer));
@@ -77,9 +62,9 @@ fn perform(kernel: &mut Kernel, connection: &mut Connection, place: usize, pid: 
 
 /// Works an open call, for the process of its connection.
 pub fn work(kernel: &mut Kernel, connection: &mut Connection, number: ReqNo) -> Reply
-    requires live { IfSome (process_in connection.old.condition) (λ pid. IsSome (at (state_after kernel.old).processes pid.0)) }
+    requires live { IfSome (process_in connection.old.condition) (λ pid. IsSome (at (state_after kernel.old.items).processes pid.0)) }
     requires taken { AllByRecursion (λ t. IsTrue (is_taken t.call)) connection.old.calls }
-    ensures step { StepsOrStays (work_step kernel.old connection.old number) kernel.old connection.old result kernel.new connection.new }
+    ensures step { StepsOrStays work_takes (work_step kernel.old.items connection.old number) kernel.old.items connection.old result kernel.new.items connection.new }
     ensures fit { AllByRecursion Fits connection.old.queue → AllByRecursion Fits connection.new.queue }
 {
     let Some(place) = connection.place_of_call(number) else {

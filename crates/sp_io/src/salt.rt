@@ -1,11 +1,14 @@
-ghost use Rattle.std.specs.Prelude.{◌≡◌, ◌⊎◌, ◌∷◌, [], List, ℕ, Option, None, Some, IfOk, MatchResult};
+//! Where random numbers come from.
+ghost use Rattle.std.specs.Prelude.{◌≡◌, ◌⊎◌, ◌∷◌, ◌++◌, ◌+◌, ◌-◌, ◌%◌, ◌^◌, ◌↔◌, [], List, ℕ, Option, None, Some, Contains, IsErr, IfOk, MatchResult};
 ghost use Rattle.std.specs.Io.KnownBytes.{Keeps, Appends};
-ghost use Rattle.sp_io.specs.Causes.{HasCause, with_fault_of};
+ghost use Rattle.std.specs.Option.{option_map};
+ghost use Rattle.sp_io.specs.Causes.{HasCause, raised, with_fault_of};
 
+use crate::calls::{Calls, Faults};
 use crate::fault::Failed;
-use crate::memory::Calls;
 use sp_base::NoMemory;
 use std::alloc::Global;
+use std::marker::Model;
 use std::random::RandomSource;
 
 /// Where the random numbers in cookies come from.
@@ -18,12 +21,14 @@ pub trait Salt: Sized {
     /// The numbers that `next` answered so far, in order, where it tells them.
     ghost drawn: { Self → Option (List ℕ) };
 
-    /// Another salt of the same kind, for a connection of its own: no call of it failed, and nothing was drawn of it.
+    /// Another salt of the same kind, for a connection of its own: no call of it failed, nothing
+    /// was drawn of it, and it tells what is drawn exactly where this one does.
     fn another(&self, alloc: Global) -> Result<Self, NoMemory>
         ensures faults { IfOk result (λ other. faults other ≡ 0) }
-        ensures drawn { IfOk result (λ other. (drawn other ≡ None) ⊎ (drawn other ≡ Some [])) };
+        ensures drawn { IfOk result (λ other. drawn other ≡ option_map (λ _. []) (drawn self.now)) };
 
-    /// Takes back one that `another` gave: where a call of that one failed, this counts as one fault here.
+    /// Takes back one that `another` gave: where a call of that one failed, this counts as one fault
+    /// here.
     fn back(&mut self, other: Self)
         ensures faults { faults self.new ≡ with_fault_of (faults other) (faults self.old) }
         ensures drawn { drawn self.new ≡ drawn self.old };
@@ -32,70 +37,92 @@ pub trait Salt: Sized {
     ///
     /// Failed comes only where the count of faults rose, and draws nothing.
     fn next(&mut self) -> Result<u64, Failed>
-        ensures drawn { MatchResult result (λ number. Appends (drawn self.old) (drawn self.new) (number ∷ [])) (λ _. Keeps (drawn self.old) (drawn self.new)) }
+        ensures drawn { MatchResult result
+            (λ number. Appends (drawn self.old) (drawn self.new) (number ∷ []))
+            (λ _. Keeps (drawn self.old) (drawn self.new)) }
         ensures cause { HasCause (faults self.old) (faults self.new) result };
-}
-
-/// A count of faults, one higher where the count of another one is above 0.
-fn with_fault_of(theirs: u64, ours: u64) -> u64
-    ensures { result ≡ with_fault_of theirs ours }
-{
-    if theirs > 0 {
-        ours.saturating_add(1)
-    } else {
-        ours
-    }
 }
 
 /// A salt that counts up from a first number, some of whose calls fail. It tells its numbers.
 ///
-/// Past 2^64 - 1 the numbers go on at 0. Once it gave 2^64 - 1 numbers, every call fails.
+/// Past 2^64 - 1 the numbers go on at 0. Once it gave 2^64 - 1 numbers, every call fails. Contracts
+/// see it as its first number and how many it gave, with its calls.
 #[derive(Drop)]
 pub struct MemSalt {
     first: u64,
     given: u64,
     calls: Calls,
-    faults: u64,
+    faults: Faults,
+}
+
+impl Model for MemSalt {
+    ghost use Rattle.sp_io.specs.Memory.{SaltState};
+
+    ghost Value = { SaltState };
+
+    ghost view = { λ s. record { first = s.first; given = s.given; fails = s.calls.fails.items; calls = s.calls.made; faults = s.faults } };
 }
 
 impl MemSalt {
-    ghost use Rattle.sp_io.specs.Salt.{salt_first, salt_fails, salt_calls};
+    ghost use Rattle.sp_io.specs.Memory.{fresh_salt};
 
-    /// A salt that counts up from this number. The calls of `next` whose numbers, from 0, are in `fails` answer Failed.
+    /// A salt that counts up from this number. The calls of `next` whose numbers, from 0, are in
+    /// `fails` answer Failed.
     pub fn of(alloc: Global, first: u64, fails: &[u64]) -> Result<MemSalt, NoMemory>
-        ensures drawn { IfOk result (λ s. ⟦<MemSalt as Salt>⟧.drawn s ≡ Some []) }
-        ensures faults { IfOk result (λ s. ⟦<MemSalt as Salt>⟧.faults s ≡ 0) }
-        ensures first { IfOk result (λ s. salt_first s ≡ first) }
-        ensures fails { IfOk result (λ s. salt_fails s ≡ fails.now) }
-        ensures made { IfOk result (λ s. salt_calls s ≡ 0) }
+        ensures { IfOk result (λ salt. salt ≡ fresh_salt first fails.now) }
     {
         Ok(MemSalt {
             first,
             given: 0,
             calls: Calls::of(alloc, fails)?,
-            faults: 0,
+            faults: Faults::none(),
         })
     }
 }
 
 impl Salt for MemSalt {
-    ghost use Rattle.sp_io.specs.Salt.{counted};
+    ghost use Rattle.sp_io.specs.Memory.{fresh_salt, drawn_of};
 
     ghost faults = { λ s. s.faults };
 
-    ghost drawn = { λ s. Some (counted s.first s.given) };
+    ghost drawn = { λ s. Some (drawn_of s) };
 
-    fn another(&self, alloc: Global) -> Result<MemSalt, NoMemory> {
+    /// A salt that counts up from the same number, and whose same calls are to fail.
+    fn another(&self, alloc: Global) -> Result<MemSalt, NoMemory>
+        ensures { IfOk result (λ other. other ≡ fresh_salt self.now.first self.now.fails) }
+    {
         MemSalt::of(alloc, self.first, &self.calls.fails)
     }
 
-    fn back(&mut self, other: MemSalt) {
-        self.faults = with_fault_of(other.faults, self.faults);
+    fn back(&mut self, other: MemSalt)
+        ensures { self.new ≡ record self.old { faults = with_fault_of other.faults self.old.faults } }
+    {
+        self.faults.raise_for(&other.faults);
     }
 
-    fn next(&mut self) -> Result<u64, Failed> {
+    /// The next number. The calls that are told to fail do, and no others before 2^64 - 1 numbers
+    /// were given.
+    fn next(&mut self) -> Result<u64, Failed>
+        // which calls fail, and what the others give
+        ensures fails { IsErr result
+            ↔ (Contains self.old.fails self.old.calls ⊎ (self.old.given ≡ 2 ^ 64 - 1)) }
+        ensures number { IfOk result (λ number. number ≡ (self.old.first + self.old.given) % 2 ^ 64) }
+        ensures drawn { MatchResult result
+            (λ number. drawn_of self.new ≡ drawn_of self.old ++ number ∷ [])
+            (λ _. drawn_of self.new ≡ drawn_of self.old) }
+        ensures given { MatchResult result (λ _. self.new.given ≡ self.old.given + 1)
+            (λ _. self.new.given ≡ self.old.given) }
+
+        // what stays, and how its calls are counted
+        ensures first { self.new.first ≡ self.old.first }
+        ensures calls { self.new.calls ≡ raised self.old.calls }
+        ensures told { self.new.fails ≡ self.old.fails }
+        ensures faults { MatchResult result (λ _. self.new.faults ≡ self.old.faults)
+            (λ _. self.new.faults ≡ raised self.old.faults) }
+        ensures cause { HasCause self.old.faults self.new.faults result }
+    {
         if self.calls.next_fails() || self.given == u64::MAX {
-            self.faults = self.faults.saturating_add(1);
+            self.faults.raise();
             return Err(Failed);
         }
         let number = self.first.wrapping_add(self.given);
@@ -108,16 +135,19 @@ impl Salt for MemSalt {
 #[derive(Drop)]
 pub struct RandomSalt<R> {
     rt: R,
-    faults: u64,
+    faults: Faults,
 }
 
 impl<R: RandomSource + Copy> RandomSalt<R> {
-    /// A salt that draws from this source, as a `&HostRuntime` is one.
+    /// A salt that draws from this source, as `HostRuntime` is one.
     pub fn over(rt: R) -> RandomSalt<R>
         ensures faults { ⟦<RandomSalt<R> as Salt>⟧.faults result ≡ 0 }
         ensures drawn { ⟦<RandomSalt<R> as Salt>⟧.drawn result ≡ None }
     {
-        RandomSalt { rt, faults: 0 }
+        RandomSalt {
+            rt,
+            faults: Faults::none(),
+        }
     }
 }
 
@@ -131,13 +161,13 @@ impl<R: RandomSource + Copy> Salt for RandomSalt<R> {
     }
 
     fn back(&mut self, other: RandomSalt<R>) {
-        self.faults = with_fault_of(other.faults, self.faults);
+        self.faults.raise_for(&other.faults);
     }
 
     fn next(&mut self) -> Result<u64, Failed> {
         let mut bytes = [0u8; 8];
         if self.rt.fill_bytes(&mut bytes).is_err() {
-            self.faults = self.faults.saturating_add(1);
+            self.faults.raise();
             return Err(Failed);
         }
         Ok(u64::from_le_bytes(bytes))

@@ -149,7 +149,7 @@ fn reads_any_reader(rt: HostRuntime) -> Result<(), Fail> {
         let mut source = ReadSource::over(Turns::of(rt.alloc(), turns, true));
         let given = take_all(rt.alloc(), &mut source, most).map(|text| text.len());
         assert_eq!(rt; given, wanted, "at most {most}");
-        assert_eq!(rt; source.faults, faults, "at most {most}");
+        assert_eq!(rt; source.faults.count(), faults, "at most {most}");
     }
     Ok(())
 }
@@ -168,7 +168,7 @@ fn writes_any_writer(rt: HostRuntime) {
         let mut sink = WriteSink::over(Turns::of(rt.alloc(), turns, flushes));
         assert_eq!(rt; put_all(&mut sink, b"bytes"), wanted);
         assert_eq!(rt; sink.inner.written.as_slice(), written);
-        assert_eq!(rt; sink.faults, faults);
+        assert_eq!(rt; sink.faults.count(), faults);
         sink.done();
         assert!(rt; sink.done);
     }
@@ -204,7 +204,7 @@ fn counts_up(rt: HostRuntime) -> Result<(), Fail> {
     Ok(())
 }
 
-/// A random source whose calls give bytes that tell their number, and whose second call fails.
+/// A random source whose calls give bytes that tell the call and their place, and whose second call fails.
 #[derive(Drop)]
 struct Numbered {
     calls: Cell<u8>,
@@ -217,8 +217,8 @@ impl RandomSource for Numbered {
         if call == 1 {
             return Err(io::Error::from(ErrorKind::Interrupted));
         }
-        if let Some(byte) = buf.first_mut() {
-            *byte = call;
+        for (place, byte) in (0u8..8).zip(buf.iter_mut()) {
+            *byte = call.wrapping_mul(16).wrapping_add(place);
         }
         Ok(())
     }
@@ -230,10 +230,46 @@ fn draws_of_the_random_source(rt: HostRuntime) -> Result<(), Fail> {
         calls: Cell::new(0),
     };
     let mut salt = RandomSalt::over(&numbered);
-    assert_eq!(rt; draws(&mut salt), [Ok(0), Err(Failed), Ok(2)]);
+    assert_eq!(rt;
+        draws(&mut salt),
+        [Ok(0x0706050403020100), Err(Failed), Ok(0x2726252423222120)]
+    );
     let mut other = salt.another(rt.alloc())?;
-    assert_eq!(rt; draws(&mut other), [Ok(3), Ok(4), Ok(5)]);
+    assert_eq!(rt; other.next(), Ok(0x3736353433323130));
     salt.back(other);
-    assert_eq!(rt; salt.next(), Ok(6));
+    assert_eq!(rt; salt.next(), Ok(0x4746454443424140));
+    Ok(())
+}
+
+#[test]
+fn draws_of_the_system(rt: HostRuntime) -> Result<(), Fail> {
+    let mut salt = RandomSalt::over(rt);
+    let first = salt.next()?;
+    let mut other = salt.another(rt.alloc())?;
+    assert_ne!(rt; other.next()?, first);
+    salt.back(other);
+    Ok(())
+}
+
+#[test]
+fn faults_as_text(rt: HostRuntime) -> Result<(), Fail> {
+    let rows = [
+        (TakeFault::Failed, "the read failed"),
+        (TakeFault::NoMemory, "out of memory"),
+        (TakeFault::TooLong, "too long"),
+    ];
+    for (fault, text) in rows {
+        let shown = format!(in rt.alloc(); "{fault}")?;
+        assert_eq!(rt; shown.as_str(), text);
+    }
+    for (fault, text) in [
+        (IoFault::Failed, "the read failed"),
+        (IoFault::NoMemory, "out of memory"),
+    ] {
+        let shown = format!(in rt.alloc(); "{fault}")?;
+        assert_eq!(rt; shown.as_str(), text);
+    }
+    let shown = format!(in rt.alloc(); "{Failed}")?;
+    assert_eq!(rt; shown.as_str(), "the call failed");
     Ok(())
 }

@@ -1,43 +1,16 @@
+//! Whole sources read, and whole texts written.
 ghost use Rattle.std.specs.Prelude.{◌≡◌, ◌+◌, ◌≤◌, true, false, length, OnOk, OnErr, IfOk, IsErrOf};
 ghost use Rattle.std.specs.Io.KnownBytes.{Appends, Consumes};
 ghost use Rattle.sp_io.specs.Causes.{HasCause, HasWholeCause};
-ghost use Rattle.sp_io.specs.declared.whole.TakeFault.TheVariants as fault;
-ghost use Rattle.sp_io.specs.Whole.{take_fault, IsAll, IsLonger, IsWithin, TakesAtMost, AppendsFirst};
+ghost use Rattle.sp_io.specs.declared.fault.TakeFault.TheVariants as fault;
+ghost use Rattle.sp_io.specs.Whole.{IsAll, IsLonger, TakesAtMost, AppendsFirst};
 
-use crate::fault::{Failed, IoFault};
-use crate::traits::{Sink, Source};
-use sp_base::{NoMemory, Octets};
+use crate::MOST_MOVED;
+use crate::fault::{Failed, TakeFault};
+use crate::sink::Sink;
+use crate::source::Source;
+use sp_base::Octets;
 use std::alloc::Global;
-
-/// Why a source was not read whole.
-#[derive(Clone, Copy, Debug, PartialEq, Eq)]
-pub enum TakeFault {
-    /// A read failed. The source's count of faults rose.
-    Failed,
-    /// The text had no memory.
-    NoMemory,
-    /// The source has more bytes than the caller takes.
-    TooLong,
-}
-
-impl From<NoMemory> for TakeFault {
-    ghost from_gives = { λ _ e. e ≡ fault.NoMemory };
-
-    fn from(_e: NoMemory) -> TakeFault {
-        TakeFault::NoMemory
-    }
-}
-
-impl From<IoFault> for TakeFault {
-    ghost from_gives = { λ e f. f ≡ take_fault e };
-
-    fn from(e: IoFault) -> TakeFault {
-        match e {
-            IoFault::Failed => TakeFault::Failed,
-            IoFault::NoMemory => TakeFault::NoMemory,
-        }
-    }
-}
 
 /// Reads a source to its end: all that it has left, which is at most `most` bytes.
 ///
@@ -56,17 +29,17 @@ pub fn take_all<S: Source>(alloc: Global, source: &mut S, most: u32) -> Result<O
 
     // when each error comes
     ensures too_long { IsErrOf result fault.TooLong → IsLonger (S.left source.old) most }
-    ensures within { OnOk result (IsWithin (S.left source.old) most) }
     ensures cause { HasWholeCause (S.faults source.old) (S.faults source.new) result }
 
     // what stays
-    ensures taken { TakesAtMost (S.left source.old) (S.left source.new) (S.passed source.old) (S.passed source.new) (most + 1) }
+    ensures taken { TakesAtMost (S.left source.old) (S.left source.new)
+        (S.passed source.old) (S.passed source.new) (most + 1) }
     ensures open { S.is_done source.new ≡ false }
 {
     let mut text = Octets::none(alloc);
     loop {
         let room = most as usize - text.len() + 1;
-        let piece = source.take(alloc, room.min(65536) as u32)?;
+        let piece = source.take(alloc, room.min(MOST_MOVED) as u32)?;
         if piece.is_empty() {
             return Ok(text);
         }

@@ -66,7 +66,7 @@ impl Plain {
     }
 
     /// close.
-    pub(crate) fn close(&mut self, pid: Pid, fd: u64) -> Outcome
+    pub fn close(&mut self, pid: Pid, fd: u64) -> Outcome
         requires { IsSome (at self.old.processes pid.0) }
         ensures { act_close self.old pid.0 fd ≡ Some (result, self.new) }
     {
@@ -175,7 +175,7 @@ impl Plain {
     }
 
     /// fcntl.
-    pub(crate) fn fcntl(&mut self, pid: Pid, fd: u64, command: u64, argument: u64) -> Outcome
+    pub fn fcntl(&mut self, pid: Pid, fd: u64, command: u64, argument: u64) -> Outcome
         requires { IsSome (at self.old.processes pid.0) }
         ensures { act_fcntl self.old pid.0 fd command argument ≡ Some (result, self.new) }
     {

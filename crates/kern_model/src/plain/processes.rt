@@ -48,7 +48,7 @@ impl Plain {
     }
 
     /// Another program takes the process: its marked rows are closed.
-    pub(crate) fn exec(&mut self, pid: Pid) -> Outcome
+    pub fn exec(&mut self, pid: Pid) -> Outcome
         requires { IsSome (at self.old.processes pid.0) }
         ensures { act_exec self.old pid.0 ≡ Some (result, self.new) }
     {
@@ -57,7 +57,7 @@ impl Plain {
     }
 
     /// The process ends: its rows are closed.
-    pub(crate) fn exit(&mut self, pid: Pid) -> Outcome
+    pub fn exit(&mut self, pid: Pid) -> Outcome
         requires { IsSome (at self.old.processes pid.0) }
         ensures { act_exit self.old pid.0 ≡ Some (result, self.new) }
     {

@@ -46,7 +46,7 @@ impl Plain {
     }
 
     /// lseek.
-    pub(crate) fn lseek(&mut self, pid: Pid, fd: u64, offset: u64, whence: u64) -> Outcome
+    pub fn lseek(&mut self, pid: Pid, fd: u64, offset: u64, whence: u64) -> Outcome
         requires { IsSome (at self.old.processes pid.0) }
         ensures { act_lseek self.old pid.0 fd offset whence ≡ Some (result, self.new) }
     {

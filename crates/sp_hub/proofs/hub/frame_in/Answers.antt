@@ -1,7 +1,7 @@
 use Rattle.std.proofs.Common.{sym}
 use Rattle.sp_hub.specs.declared.event.Reply.TheVariants.{Closed}
 use Rattle.sp_hub.specs.Machine.{Machine, running}
-use Rattle.sp_hub.specs.Step.{frame_step}
+use Rattle.sp_hub.specs.Step.{frame_takes, frame_step}
 use Rattle.sp_hub.proofs.Machines.{here, owner_at, speaks, plays, plays_sound}
 use Rattle.sp_hub.proofs.Steps.{frame_keeps}
 use Rattle.sp_hub.proofs.hub.frame_in.Goals as goal
@@ -10,21 +10,21 @@ pub frame-requires : goal.frame-requires
 frame-requires c =
     let x = c.index_mut-connection.result.now in
     let there = here c.args.connections.now.items c.deref.result.now c.in-Some.place x _ c.deref.ensures.value c.in-Some.ensures.within c.index_mut-connection.ensures.value in
-    record { live = speaks (running c.args.kernel.now c.args.connections.now.items) c.in-Some.place x c.requires.sound there }
+    record { live = speaks (running c.args.kernel.now.items c.args.connections.now.items) c.in-Some.place x c.requires.sound there }
 
 pub returns-clause-plays : goal.returns-clause-plays
 returns-clause-plays c =
-    let m : Machine = running c.args.kernel.now c.args.connections.now.items in
+    let m : Machine = running c.args.kernel.now.items c.args.connections.now.items in
     let x = c.index_mut-connection.result.now in
     let there = here c.args.connections.now.items c.deref.result.now c.in-Some.place x _ c.deref.ensures.value c.in-Some.ensures.within c.index_mut-connection.ensures.value in
     let which = sym (rw c.deref.ensures.value at c.in-Some.ensures.which) in
-    plays m c.args.no Closed (λ journal x. frame_step journal x c.args.frame.now) c.in-Some.place x c.frame.result c.frame.new.kernel c.frame.new.connection which there c.frame.ensures.step
+    plays frame_takes m c.args.no Closed (λ journal x. frame_step journal x c.args.frame.now) c.in-Some.place x c.frame.result c.frame.new.kernel.items c.frame.new.connection which there c.frame.ensures.step
 
 pub returns-clause-sound : goal.returns-clause-sound
 returns-clause-sound c =
-    let m : Machine = running c.args.kernel.now c.args.connections.now.items in
+    let m : Machine = running c.args.kernel.now.items c.args.connections.now.items in
     let x = c.index_mut-connection.result.now in
     let there = here c.args.connections.now.items c.deref.result.now c.in-Some.place x _ c.deref.ensures.value c.in-Some.ensures.within c.index_mut-connection.ensures.value in
     let is = c.requires.sound.each c.in-Some.place x there in
-    plays_sound m c.in-Some.place x (frame_step c.args.kernel.now x c.args.frame.now) c.frame.result c.frame.new.kernel c.frame.new.connection c.requires.sound there
-    (λ fit. frame_keeps c.args.kernel.now x c.args.frame.now is (owner_at m c.in-Some.place x c.requires.sound there) fit) c.frame.ensures.fit c.frame.ensures.step
+    plays_sound frame_takes m c.in-Some.place x (frame_step c.args.kernel.now.items x c.args.frame.now) c.frame.result c.frame.new.kernel.items c.frame.new.connection c.requires.sound there
+    (λ fit. frame_keeps c.args.kernel.now.items x c.args.frame.now is (owner_at m c.in-Some.place x c.requires.sound there) fit) c.frame.ensures.fit c.frame.ensures.step

@@ -12,7 +12,7 @@ returns-in-Done-clause-step c =
     let does = rw (c.none.ensures, c.copy.ensures) at (c.in-Done.ensures.done c.in-Done.answer refl) in
     let queue = rw (c.in-Some.ensures, c.response.ensures.frame) at c.with.ensures in
     let there = slice_get_read c.args.connection.now.calls (length c.args.connection.now.calls) c.args.place c.index-slice-place.result refl c.requires.place (rw c.slice.ensures at c.index-slice-place.is) in
-    inl (worked c.args.kernel.now c.act.new.self c.args.connection.now c.args.place c.index-slice-place.result c.args.pid c.in-Done.answer c.take_at.new.self c.with.result there does c.take_at.ensures.rest queue)
+    inl (worked c.args.kernel.now.items c.act.new.kernel.items c.args.connection.now c.args.place c.index-slice-place.result c.args.pid c.in-Done.answer c.take_at.new.self c.with.result there does c.take_at.ensures.rest queue)
 
 pub returns-in-Done-clause-fit : goal.returns-in-Done-clause-fit
 returns-in-Done-clause-fit c h =

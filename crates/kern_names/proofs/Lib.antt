@@ -1,0 +1,13 @@
+pub mod ListingLaws
+pub mod ShownLaws
+pub mod AddedLaws
+pub mod RemovedLaws
+pub mod MovedLaws
+pub mod EntriesLaws
+pub mod InsideLaws
+pub mod InsideMoves
+pub mod RootLaws
+pub mod TextLaws
+pub mod WalkSteps
+pub mod AboveLaws
+pub mod CountLaws

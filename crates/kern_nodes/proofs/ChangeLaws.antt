@@ -1,0 +1,137 @@
+-- What the table is after each kind of change to the entries that it shows.
+use Rattle.std.proofs.Common.{◌≡◌, ℕ, ◌+◌, ◌-◌, ◌≤◌, List, [], length, get_or, Option, None, Some, IsSome, is_some, cond, false, nat_lt, ◌||◌, refl, ap, sym, ◌∙◌, arith}
+use Rattle.std.specs.List.{sum_by, count_by}
+use Rattle.std.specs.Map.{lookup}
+use Rattle.std.specs.Ordering.{nat_cmp}
+use Rattle.std.specs.BTreeMap.{is_at, IsUnchanged}
+use Rattle.kern_model.specs.declared.node.NodeKind.{NodeKind}
+use Rattle.kern_model.specs.State.{bytes_in, replace_bytes}
+use Rattle.kern_model.specs.Files.{is_above_total}
+use Rattle.kern_nodes.specs.declared.inode.Inode.{Inode}
+use Rattle.kern_nodes.specs.NodeTable.{NodeTable, state_of, without_unkept, with_new, with_links, with_holders, with_node, links_of, holders_of}
+use Rattle.kern_nodes.specs.Inode.{Inodes, entry, listed, node_in, links_in, holders_in, size_in, table_of, Changes, ChangesBy}
+use Rattle.kern_nodes.specs.Bytes.{with_contents, contents_of}
+use Rattle.kern_nodes.proofs.ListedLaws.{listed_set, listed_kept, listed_same}
+use Rattle.kern_nodes.proofs.CountLaws.{number_within, size_within, counted_after, listed_added, counted_more}
+use Rattle.kern_nodes.proofs.ShowLaws.{same_table, Shows, node_at, links_at, holders_at, live_entry, contents_within, sum_within}
+
+-- where the entries stay, so does the table
+pub unchanged : {old new : Inodes} {last bytes : ℕ} {table : NodeTable} → Shows old last bytes table → IsUnchanged old new → Shows new last bytes table
+unchanged {old} {new} {last} {bytes} {table} shows same =
+    let entries : (number : ℕ) → entry new number ≡ entry old number = λ number. ap (lookup (is_at (nat_cmp number))) same in
+    let nodes : listed node_in new (last + 1) ≡ listed node_in old (last + 1) = listed_same node_in old new (last + 1) None (λ n below. ap node_in (entries n)) in
+    let links : listed links_in new (last + 1) ≡ listed links_in old (last + 1) = listed_same links_in old new (last + 1) 0 (λ n below. ap links_in (entries n)) in
+    let holders : listed holders_in new (last + 1) ≡ listed holders_in old (last + 1) = listed_same holders_in old new (last + 1) 0 (λ n below. ap holders_in (entries n)) in
+    record {
+      view = same_table (table_of new last) (table_of old last) nodes links holders ∙ shows.view;
+      counted = record {
+        last_of_all = λ n behind. entries n ∙ shows.counted.last_of_all n behind;
+        count = ap (count_by is_some) nodes ∙ shows.counted.count ∙ ap length (sym same);
+        total = ap (sum_by size_in) nodes ∙ shows.counted.total;
+        within = shows.counted.within;
+      };
+    }
+
+-- after a node's count of links was set
+pub links_set : {old new : Inodes} {last bytes : ℕ} {table : NodeTable} (number links : ℕ) → Shows old last bytes table → IsSome (get_or table.nodes number None)
+    → ChangesBy (λ inode. record inode { links = links }) old new number
+    → Shows new last bytes (with_links table number links)
+links_set {old} {new} {last} {bytes} {table} number links shows live changed =
+    let found = live_entry number shows live in
+    let below = number_within old last bytes number found.0 shows.counted found.1 in
+    let changes = changed found.0 found.1 in
+    let other : Option Inode = Some (record found.0 { links = links }) in
+    record {
+      view = same_table (table_of new last) (with_links (table_of old last) number links)
+          (listed_kept node_in old new (last + 1) number other None changes (sym (ap node_in found.1)))
+          (listed_set links_in old new (last + 1) number other 0 (omega arith) changes)
+          (listed_kept holders_in old new (last + 1) number other 0 changes (sym (ap holders_in found.1)))
+          ∙ ap (λ t. with_links t number links) shows.view;
+      counted = counted_after old new last bytes bytes number other shows.counted below changes
+          (ap (λ o. bytes + size_in (node_in o)) found.1) shows.counted.within;
+    }
+
+-- after a node's count of holders was set
+pub holders_set : {old new : Inodes} {last bytes : ℕ} {table : NodeTable} (number holders : ℕ) → Shows old last bytes table → IsSome (get_or table.nodes number None)
+    → ChangesBy (λ inode. record inode { holders = holders }) old new number
+    → Shows new last bytes (with_holders table number holders)
+holders_set {old} {new} {last} {bytes} {table} number holders shows live changed =
+    let found = live_entry number shows live in
+    let below = number_within old last bytes number found.0 shows.counted found.1 in
+    let changes = changed found.0 found.1 in
+    let other : Option Inode = Some (record found.0 { holders = holders }) in
+    record {
+      view = same_table (table_of new last) (with_holders (table_of old last) number holders)
+          (listed_kept node_in old new (last + 1) number other None changes (sym (ap node_in found.1)))
+          (listed_kept links_in old new (last + 1) number other 0 changes (sym (ap links_in found.1)))
+          (listed_set holders_in old new (last + 1) number other 0 (omega arith) changes)
+          ∙ ap (λ t. with_holders t number holders) shows.view;
+      counted = counted_after old new last bytes bytes number other shows.counted below changes
+          (ap (λ o. bytes + size_in (node_in o)) found.1) shows.counted.within;
+    }
+
+-- after a node got other bytes, no more than so many that the limit of all allows, with the sum that goes with them
+pub contents_set : {old new : Inodes} {last bytes : ℕ} {table : NodeTable} (edit : List ℕ → List ℕ) (number sum most : ℕ) → Shows old last bytes table → IsSome (get_or table.nodes number None)
+    → ChangesBy (λ inode. record inode { contents = edit inode.contents }) old new number
+    → is_above_total (state_of table) number most ≡ false → length (edit (contents_of table number)) ≤ most → sum ≡ (bytes - length (contents_of table number)) + length (edit (contents_of table number))
+    → Shows new last sum (with_contents table number (edit (contents_of table number)))
+contents_set {old} {new} {last} {bytes} {table} edit number sum most shows live changed allowed fits sums =
+    let found = live_entry number shows live in
+    let below = number_within old last bytes number found.0 shows.counted found.1 in
+    let changes = changed found.0 found.1 in
+    let other : Option Inode = Some (record found.0 { contents = edit found.0.contents }) in
+    let there : get_or table.nodes number None ≡ node_in (Some found.0) = node_at number shows ∙ ap node_in found.1 in
+    let within = sum_within number most shows allowed in
+    let part = contents_within number shows live in
+    let after : sum + length (contents_of table number) ≡ bytes + length (edit (contents_of table number)) = omega (arith, part, sums) in
+    record {
+      view = same_table (table_of new last) (with_node (table_of old last) number (node_in other))
+          (listed_set node_in old new (last + 1) number other None (omega arith) changes)
+          (listed_kept links_in old new (last + 1) number other 0 changes (sym (ap links_in found.1)))
+          (listed_kept holders_in old new (last + 1) number other 0 changes (sym (ap holders_in found.1)))
+          ∙ ap (λ t. with_node t number (node_in other)) shows.view
+          ∙ ap (λ node. with_node table number (replace_bytes node (edit (bytes_in node)))) (sym there);
+      counted = counted_after old new last bytes sum number other shows.counted below changes
+          (ap (λ o. sum + size_in o) (sym (node_at number shows)) ∙ after ∙ ap (λ o. bytes + length (edit (bytes_in o))) there)
+          (omega (arith, within, fits, sums));
+    }
+
+-- what neither a link nor a holder keeps goes
+pub not_kept : (table : NodeTable) (number : ℕ) → links_of table number ≡ 0 → holders_of table number ≡ 0 → without_unkept table number ≡ with_node table number None
+not_kept table number links holders =
+    ap (λ n. cond (nat_lt 0 n || nat_lt 0 (holders_of table number)) table (with_node table number None)) links
+    ∙ ap (λ n. cond (nat_lt 0 0 || nat_lt 0 n) table (with_node table number None)) holders
+
+-- after a node without links and holders was taken away, whose bytes leave the sum
+pub node_gone : {old new : Inodes} {last bytes : ℕ} {table : NodeTable} (number size : ℕ) → Shows old last bytes table → IsSome (get_or table.nodes number None)
+    → Changes old new number None → links_of table number ≡ 0 → holders_of table number ≡ 0 → size ≡ length (contents_of table number)
+    → Shows new last (bytes - size) (with_node table number None)
+node_gone {old} {new} {last} {bytes} {table} number size shows live changes no_links no_holders sized =
+    let found = live_entry number shows live in
+    let below = number_within old last bytes number found.0 shows.counted found.1 in
+    let same : size ≡ size_in (node_in (entry old number)) = sized ∙ ap size_in (node_at number shows) in
+    let less : size_in (node_in (entry old number)) ≤ bytes = size_within old last bytes number shows.counted below in
+    record {
+      view = same_table (table_of new last) (with_node (table_of old last) number None)
+          (listed_set node_in old new (last + 1) number None None (omega arith) changes)
+          (listed_kept links_in old new (last + 1) number None 0 changes (sym no_links ∙ links_at number shows))
+          (listed_kept holders_in old new (last + 1) number None 0 changes (sym no_holders ∙ holders_at number shows))
+          ∙ ap (λ t. with_node t number None) shows.view;
+      counted = counted_after old new last bytes (bytes - size) number None shows.counted below changes
+          (omega (arith, less, same)) (omega (arith, shows.counted.within));
+    }
+
+-- after an empty node with one link was added behind the last number
+pub node_added : {old new : Inodes} {last bytes : ℕ} {table : NodeTable} (kind : NodeKind) → Shows old last bytes table
+    → Changes old new (last + 1) (Some (record { kind = kind; contents = []; links = 1; holders = 0 }))
+    → Shows new (last + 1) bytes (with_new table kind)
+node_added {old} {new} {last} {bytes} {table} kind shows changes =
+    let added : Inode = record { kind = kind; contents = []; links = 1; holders = 0 } in
+    record {
+      view = same_table (table_of new (last + 1)) (with_new (table_of old last) kind)
+          (listed_added node_in old new last (Some added) None changes)
+          (listed_added links_in old new last (Some added) 0 changes)
+          (listed_added holders_in old new last (Some added) 0 changes)
+          ∙ ap (λ t. with_new t kind) shows.view;
+      counted = counted_more old new last bytes added shows.counted changes refl;
+    }

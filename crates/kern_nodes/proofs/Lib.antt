@@ -1,0 +1,5 @@
+pub mod PutLaws
+pub mod ListedLaws
+pub mod CountLaws
+pub mod ShowLaws
+pub mod ChangeLaws

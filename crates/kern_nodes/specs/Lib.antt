@@ -1,0 +1,4 @@
+pub mod NodeTable
+pub mod Inode
+pub mod TreeFault
+pub mod Bytes

@@ -1,0 +1,2 @@
+pub mod OpenTables
+pub mod Counted
