@@ -1,10 +1,10 @@
 //! A server and its one guest, in one process.
 ghost use Rattle.std.specs.Prelude.{◌≡◌, ℕ, IfOk, OnOk, IsTrue};
-ghost use Rattle.kern_model.specs.Act.{is_built};
 ghost use Rattle.sp_base.specs.Call.{IsProper};
 ghost use Rattle.sp_base.specs.declared.names.Pid.{Pid};
 ghost use Rattle.sp_frames.specs.Grammar.{Fits};
 ghost use Rattle.sp_hub.specs.Machine.{fresh_machine, played};
+ghost use Rattle.sp_hub.specs.Verdict.{is_taken};
 ghost use Rattle.guest_script.specs.Script.{is_name};
 ghost use Rattle.rump_sp.specs.Run.{guest_connection};
 ghost use Rattle.rump_sp.specs.Guest.{HasAnswer, IsResting, IsReady, IsAttached, IsCalled, HasEnded};
@@ -94,7 +94,7 @@ impl Runner {
     /// Performs a call of the guest as the request of that number.
     pub fn call(&mut self, number: u64, call: &Call) -> Result<Answer, NoMemory>
         requires proper { IsProper call.now }
-        requires built { IsTrue (is_built call.now) }
+        requires taken { IsTrue (is_taken call.now) }
         requires ready { IsReady self.old.hub number }
         ensures { IfOk result (λ answer. (pid : Pid) (last : ℕ) → IsResting self.old.hub pid last → IsCalled self.old.hub pid number call.now answer self.new.hub) }
     {

@@ -8,17 +8,13 @@ use Rattle.sp_base.specs.declared.names.ConnNo.{ConnNo}
 use Rattle.sp_base.specs.declared.names.ReqNo.{ReqNo}
 use Rattle.sp_frames.specs.declared.fault.FrameFault.{FrameFault}
 use Rattle.sp_frames.specs.declared.frame.Frame.{Frame}
-use Rattle.sp_frames.specs.declared.fault.FrameFault.TheVariants as frame_fault
-use Rattle.sp_frames.specs.declared.header.Header.{Header}
-use Rattle.sp_frames.specs.declared.reading.Step.TheVariants.{Whole, Fault}
-use Rattle.sp_frames.specs.Faults.{HasFault, IsOutside, IsFaultOf}
+use Rattle.sp_frames.specs.Faults.{HasFault}
 use Rattle.sp_frames.specs.Fields.{IsBytes}
-use Rattle.sp_frames.specs.Grammar.{spelling, header_bytes}
+use Rattle.sp_frames.specs.Banner.{banner}
+use Rattle.sp_frames.specs.Grammar.{spelling}
 use Rattle.sp_frames.specs.Reading.{step_of}
-use Rattle.sp_frames.specs.Stream.{NoFront}
-use Rattle.sp_frames.proofs.FaultLaws.{one_fault, partial_none, fault_step}
-use Rattle.sp_frames.proofs.StepLaws.{spelled}
-use Rattle.sp_frames.proofs.StreamLaws.{one_whole}
+use Rattle.sp_frames.proofs.FaultLaws.{one_fault, partial_none}
+use Rattle.sp_frames.proofs.StreamLaws.{one_whole, fault_stays, fault_ends_the_frames}
 use Rattle.sp_hub.specs.declared.connection.OpenCall.{OpenCall}
 use Rattle.sp_hub.specs.declared.event.Event.TheVariants as event
 use Rattle.sp_hub.specs.declared.event.Finish.{Finish}
@@ -30,7 +26,7 @@ use Rattle.sp_server.specs.declared.stdio.StdioEnd.{StdioEnd}
 use Rattle.sp_server.specs.declared.stdio.StdioEnd.TheVariants as end
 use Rattle.sp_server.proofs.Octets.{bytes-append, bytes-take, bytes-back}
 use Rattle.sp_server.specs.Serving.{after, is_out, worked, performs, AreOpen, AreRounds, HandsOut}
-use Rattle.sp_server.specs.Stdio.{connection, at_start, banner, most_input, salt_for, salts_behind, AnswersFrame, Answers, IsAnswered, EndsAs, IsStdioOut, IsUnended, Serves, is_read, is_decided, Ends}
+use Rattle.sp_server.specs.Stdio.{connection, at_start, most_input, salt_for, salts_behind, AnswersFrame, Answers, IsAnswered, EndsAs, IsStdioOut, IsUnended, Serves, is_read, is_decided, Ends}
 
 -- ---- rounds of work
 
@@ -247,46 +243,12 @@ one_taken a b taken salts text more da db sa sb = one_of a b taken salts text mo
 
 -- ---- bytes that come later
 
--- a fault stays one, whatever bytes come behind it
-pub fault_stays : (rest later : List ℕ) (fault : FrameFault) → IsBytes later → HasFault rest fault → HasFault (rest ++ later) fault
-fault_stays rest later fault all has =
-    let begins = has.2 in (
-      has.0,
-      has.1 ++ later,
-      record {
-        text = ap (λ (t : List ℕ). t ++ later) begins.text ∙ append_assoc (header_bytes has.0) has.1 later;
-        fits = begins.fits;
-        rest_bytes = bytes-append has.1 later begins.rest_bytes all;
-      },
-      still has.0 has.1 later fault has.3,
-    )
-  where
-    outside : (h : Header) (more later : List ℕ) → IsOutside h more → IsOutside h (more ++ later)
-    outside h more later (inl size) = inl size
-    outside h more later (inr whole) =
-        let enough : h.len - 24 ≤ length more = whole.0 in
-        inr (rw (length-append more later) (omega arith), rw (take-append-le (h.len - 24) more later enough) whole.1)
-    still : (h : Header) (more later : List ℕ) (fault : FrameFault) → IsFaultOf h more fault → IsFaultOf h (more ++ later) fault
-    still h more later (frame_fault.TooShort len) is = is
-    still h more later (frame_fault.TooLong len) is = is
-    still h more later (frame_fault.Class class) is = is
-    still h more later (frame_fault.Kind kind) is = is
-    still h more later (frame_fault.Word kind word) is = is
-    still h more later (frame_fault.Payload kind len) is = (is.0, is.1, is.2, is.3, outside h more later is.4)
-    still h more later frame_fault.NoMemory is = is
-
--- no frame begins bytes that have a fault
-pub fault_front : (rest : List ℕ) (fault : FrameFault) → HasFault rest fault → NoFront rest
-fault_front rest fault has f more fits is =
-    let both : Fault fault ≡ Whole f (length (spelling f)) = sym (fault_step rest fault has) ∙ ap step_of is ∙ spelled f more fits in
-    absurd cc
-
 -- what is written for input with a fault is written for it with whatever bytes behind it
 pub bad_stays : (input later salts : List ℕ) (fault : FrameFault) (offset : ℕ) (text : List ℕ) → IsBytes later → IsStdioOut input salts (finish.Bad fault) offset text
     → IsStdioOut (input ++ later) salts (finish.Bad fault) offset text
 bad_stays input later salts fault offset text all out =
     let was = out.answered in
-    let has = fault_stays out.rest later fault all out.ends in
+    let has = (fault_stays out.rest later fault all out.ends).0 in
     let place = out.place in
     record {
       front = out.front;
@@ -297,11 +259,7 @@ bad_stays input later salts fault offset text all out =
       answered = record {
         frames = was.frames;
         body = was.body;
-        whole = record {
-          whole = ap (λ (t : List ℕ). t ++ later) was.whole.whole ∙ append_assoc (flat_map spelling was.frames) out.rest later;
-          each = was.whole.each;
-          none = fault_front (out.rest ++ later) fault has;
-        };
+        whole = fault_ends_the_frames input later was.frames out.rest fault all was.whole out.ends;
         answers = was.answers;
         begins = was.begins;
       };

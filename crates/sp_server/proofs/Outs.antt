@@ -15,6 +15,7 @@ use Rattle.sp_frames.specs.declared.reading.Step.TheVariants.{Whole, Partial, Fa
 use Rattle.sp_frames.specs.Feeding.{FrontIs}
 use Rattle.sp_frames.specs.Fields.{IsBytes}
 use Rattle.sp_frames.specs.Framing.{IsStop}
+use Rattle.sp_frames.specs.Banner.{banner}
 use Rattle.sp_frames.specs.Grammar.{spelling}
 use Rattle.sp_frames.specs.Reading.{step_of}
 use Rattle.sp_frames.specs.Stream.{stream_of, IsWhole}
@@ -31,7 +32,7 @@ use Rattle.sp_hub.specs.Task.{IsOpen, IsLowest, calls_in, calls_at, open_calls}
 use Rattle.sp_hub.proofs.Lists.{all_map}
 use Rattle.sp_server.specs.Serving.{reply_to, after, is_out, worked, performs, AreOpen, AreRounds, HandsOut}
 use Rattle.sp_server.specs.Session.{IsBegun, IsPart}
-use Rattle.sp_server.specs.Stdio.{connection, at_start, banner, salt_for, salts_behind, AnswersFrame, Answers, IsAnswered, EndsAs, IsStdioOut, IsCutOff}
+use Rattle.sp_server.specs.Stdio.{connection, at_start, salt_for, salts_behind, AnswersFrame, Answers, IsAnswered, EndsAs, IsStdioOut, IsCutOff}
 use Rattle.sp_server.proofs.EndLaws.{text_begins}
 use Rattle.sp_server.proofs.Octets.{bytes-append, bytes-back, bytes-drop}
 use Rattle.sp_server.proofs.Shrinking.{queued, open_total, taken_less, worked_by_weight, round_less}

@@ -10,6 +10,7 @@ use Rattle.sp_frames.specs.declared.fault.FrameFault.{FrameFault}
 use Rattle.sp_frames.specs.declared.fault.FrameFault.TheVariants as frame_fault
 use Rattle.sp_frames.specs.declared.frame.Frame.{Frame}
 use Rattle.sp_frames.specs.Fields.{IsBytes}
+use Rattle.sp_frames.specs.Banner.{banner}
 use Rattle.sp_frames.specs.Grammar.{spelling}
 use Rattle.sp_frames.specs.Stream.{IsWhole}
 use Rattle.sp_frames.specs.Faults.{HasFault, NoFault}
@@ -23,7 +24,7 @@ use Rattle.sp_server.proofs.Octets.{bytes-append}
 use Rattle.sp_server.specs.declared.session.Session.{Session}
 use Rattle.sp_server.specs.declared.stdio.StdioEnd.TheVariants as end
 use Rattle.sp_server.specs.Serving.{after, HandsOut}
-use Rattle.sp_server.specs.Stdio.{connection, at_start, banner, most_input, AnswersFrame, Answers, IsAnswered, EndsAs, IsStdioOut, IsUnended, Serves}
+use Rattle.sp_server.specs.Stdio.{connection, at_start, most_input, AnswersFrame, Answers, IsAnswered, EndsAs, IsStdioOut, IsUnended, Serves}
 use Rattle.sp_server.specs.Session.{IsBehind, IsAt, IsMet, IsQueueFront, IsAnswerFront, IsPart, IsPartBehind, IsServedBehind}
 
 -- ---- known bytes

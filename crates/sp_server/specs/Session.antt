@@ -7,6 +7,7 @@ use Rattle.sp_frames.specs.declared.fault.FrameFault.{FrameFault}
 use Rattle.sp_frames.specs.declared.fault.FrameFault.TheVariants as frame_fault
 use Rattle.sp_frames.specs.declared.frame.Frame.{Frame}
 use Rattle.sp_frames.specs.Fields.{IsBytes}
+use Rattle.sp_frames.specs.Banner.{banner}
 use Rattle.sp_frames.specs.Grammar.{spelling}
 use Rattle.sp_frames.specs.Framing.{Held, Follows, IsStop}
 use Rattle.sp_frames.specs.Stream.{IsWhole}
@@ -19,7 +20,7 @@ use Rattle.sp_server.specs.declared.session.Stop.TheVariants as stop
 use Rattle.sp_server.specs.declared.stdio.StdioEnd.{StdioEnd}
 use Rattle.sp_server.specs.declared.stdio.StdioEnd.TheVariants.{OutputFault, NoMemory}
 use Rattle.sp_server.specs.Serving.{HandsOut}
-use Rattle.sp_server.specs.Stdio.{connection, at_start, banner, most_input, AnswersFrame, Answers, IsAnswered, IsStdioOut, Serves}
+use Rattle.sp_server.specs.Stdio.{connection, at_start, most_input, AnswersFrame, Answers, IsAnswered, IsStdioOut, Serves}
 
 -- the count never fell, and a stop for the sink comes only where it rose
 pub record HasStopCause {T : Type 0} (before now : ℕ) (result : Result T Stop) : Type 0 where

@@ -1,5 +1,5 @@
 -- What is written to standard output for what standard input gives.
-use Rattle.std.specs.Prelude.{◌≡◌, ◌≢◌, ℕ, ◌+◌, ◌^◌, ◌≤◌, ◌<◌, Bool, true, false, Option, List, [], ◌∷◌, ◌++◌, length, take, codes, if◌then◌else◌}
+use Rattle.std.specs.Prelude.{◌≡◌, ◌≢◌, ℕ, ◌+◌, ◌^◌, ◌≤◌, ◌<◌, Bool, true, false, Option, List, [], ◌∷◌, ◌++◌, length, take, if◌then◌else◌}
 use Rattle.std.specs.List.{flat_map}
 use Rattle.std.specs.Io.KnownBytes.{Appends, Consumes}
 use Rattle.sp_io.specs.Whole.{IsAll}
@@ -9,6 +9,7 @@ use Rattle.sp_frames.specs.declared.fault.FrameFault.{FrameFault}
 use Rattle.sp_frames.specs.declared.frame.Body.{Body}
 use Rattle.sp_frames.specs.declared.frame.Body.TheVariants.{Prefork, Preexec}
 use Rattle.sp_frames.specs.declared.frame.Frame.{Frame}
+use Rattle.sp_frames.specs.Banner.{banner}
 use Rattle.sp_frames.specs.Grammar.{spelling}
 use Rattle.sp_frames.specs.Stream.{IsWhole}
 use Rattle.sp_frames.specs.Faults.{HasFault, NoFault}
@@ -27,10 +28,6 @@ connection = record { 0 = 0 }
 -- the server when that connection is open
 abbrev pub at_start : Machine
 at_start = after fresh_machine (event.Opened connection)
-
--- what is written before any frame
-abbrev pub banner : List ℕ
-banner = codes "RUMPSP-0.4" ++ 10 ∷ []
 
 -- at most so many bytes of input are looked at: 1 GiB
 abbrev pub most_input : ℕ

@@ -3,9 +3,10 @@ ghost use Rattle.std.specs.Prelude.{◌≡◌, ◌≢◌, ◌≤◌, ◌+◌, �
 ghost use Rattle.std.specs.List.{flat_map};
 ghost use Rattle.std.specs.Io.KnownBytes.{Appends};
 ghost use Rattle.sp_frames.specs.declared.frame.Frame.{Frame};
+ghost use Rattle.sp_frames.specs.Banner.{banner};
 ghost use Rattle.sp_frames.specs.Grammar.{spelling};
 ghost use Rattle.sp_server.specs.Serving.{HandsOut};
-ghost use Rattle.sp_server.specs.Stdio.{connection, banner, most_input, AnswersFrame, IsAnswered, EndsAs, IsStdioOut, is_read, is_decided};
+ghost use Rattle.sp_server.specs.Stdio.{connection, most_input, AnswersFrame, IsAnswered, EndsAs, IsStdioOut, is_read, is_decided};
 ghost use Rattle.sp_server.specs.Session.{HasStopCause, IsBehind, IsAt, IsMet, IsQueueFront, IsAnswerFront, IsPartBehind, IsServedBehind};
 
 use crate::serving::{hand_out, work_all};
