@@ -1,5 +1,5 @@
 -- The bytes decide how a run ends and what is written: whatever is said of a run is said of one end and one text alone.
-use Rattle.std.proofs.Common.{◌≡◌, ◌⊎◌, inl, inr, ℕ, zero, suc, ◌+◌, ◌-◌, ◌≤◌, ◌<◌, Bool, true, false, List, [], ◌∷◌, ◌++◌, length, take, Some, None, refl, sym, ap, subst, ◌∙◌, arith, append_assoc, length-append}
+use Rattle.std.proofs.Common.{◌≡◌, ◌⊎◌, inl, inr, ℕ, zero, suc, ◌+◌, ◌≤◌, ◌<◌, Bool, true, false, List, [], ◌∷◌, ◌++◌, length, take, Some, None, refl, sym, ap, subst, ◌∙◌, arith, append_assoc, length-append}
 use Rattle.std.proofs.lemmas.Bool.{eqb-true}
 use Rattle.std.proofs.lemmas.List.{take_all, append-nil, take-append-le}
 use Rattle.std.specs.Prelude.{◌==◌, ◌||◌}
@@ -24,7 +24,7 @@ use Rattle.sp_hub.specs.Machine.{Machine}
 use Rattle.sp_hub.specs.Task.{IsOpen, IsLowest, open_calls}
 use Rattle.sp_server.specs.declared.stdio.StdioEnd.{StdioEnd}
 use Rattle.sp_server.specs.declared.stdio.StdioEnd.TheVariants as end
-use Rattle.sp_server.proofs.Octets.{bytes-append, bytes-take, bytes-back}
+use Rattle.sp_server.proofs.Octets.{bytes-take, bytes-back}
 use Rattle.sp_server.specs.Serving.{after, is_out, worked, performs, AreOpen, AreRounds, HandsOut}
 use Rattle.sp_server.specs.Stdio.{connection, at_start, most_input, salt_for, salts_behind, AnswersFrame, Answers, IsAnswered, EndsAs, IsStdioOut, IsUnended, Serves, is_read, is_decided, Ends}
 
@@ -114,8 +114,7 @@ pub text_begins : (frames later : List Frame) (m : Machine) (salts xs ys : List 
 text_begins [] later m salts xs ys n k a b = (ys, ap (λ (t : List ℕ). t ++ ys) (sym a.0))
 text_begins (f ∷ frames) later m salts xs ys n k a b =
     let first = one_answer m f (salt_for f salts) a.1 b.1 a.0 b.0 a.3 b.3 in
-    let rest = text_begins frames later a.0 (salts_behind f salts) a.2 b.2 n k a.4 (subst (λ (w : Machine). Answers w (frames ++ later) (salts_behind f salts) b.2 k) (sym first.1) b.4) in
-    (
+    let rest = text_begins frames later a.0 (salts_behind f salts) a.2 b.2 n k a.4 (subst (λ (w : Machine). Answers w (frames ++ later) (salts_behind f salts) b.2 k) (sym first.1) b.4) in (
       rest.0,
       b.5 ∙ ap (λ (t : List ℕ). t ++ b.2) (sym first.0) ∙ ap (λ (t : List ℕ). a.1 ++ t) rest.1 ∙ sym (append_assoc a.1 a.2 rest.0) ∙ ap (λ (t : List ℕ). t ++ rest.0) (sym a.5),
     )
@@ -293,6 +292,7 @@ serves_input e input salts text all is ends = by_end e ends.taken ends.later is 
   where
     at_end : (e : StdioEnd) (taken later : List ℕ) → later ≡ [] → Serves e taken salts text → input ≡ taken ++ later → Serves e input salts text
     at_end e taken later none serves whole = subst (λ (l : List ℕ). Serves e l salts text) (sym (whole ∙ ap (λ (t : List ℕ). taken ++ t) none ∙ append-nil taken)) serves
+
     by_end : (e : StdioEnd) (taken later : List ℕ) → is_decided e ≡ true → (is_read e ≡ true → later ≡ []) → Serves e taken salts text → input ≡ taken ++ later → Serves e input salts text
     by_end end.Clean taken later is read serves whole = at_end end.Clean taken later (read refl) serves whole
     by_end (end.InsideAt offset) taken later is read serves whole = at_end (end.InsideAt offset) taken later (read refl) serves whole

@@ -5,3 +5,4 @@ pub mod SessionLaws
 pub mod RunLaws
 pub mod EndLaws
 pub mod Outs
+pub mod RunsLaws

@@ -1,11 +1,11 @@
 -- Something is to be written for every input, and what is written for its first frames begins it.
-use Rattle.std.proofs.Common.{◌≡◌, ◌≢◌, ◌⊎◌, inl, inr, ℕ, zero, suc, ◌+◌, ◌-◌, ◌≤◌, ◌<◌, Bool, true, false, List, [], ◌∷◌, ◌++◌, length, take, drop, Option, Some, None, refl, sym, ap, subst, ◌∙◌, arith, append_assoc, length-append}
+use Rattle.std.proofs.Common.{◌≡◌, ◌⊎◌, inl, inr, ℕ, zero, suc, ◌+◌, ◌-◌, ◌≤◌, ◌<◌, Bool, true, false, List, [], ◌∷◌, ◌++◌, length, take, drop, Option, Some, None, refl, sym, ap, subst, ◌∙◌, arith, append_assoc, length-append}
 use Rattle.std.proofs.lemmas.Bool.{cases_lt}
 use Rattle.std.proofs.lemmas.Bool.Decides.{nat_tests}
-use Rattle.std.proofs.lemmas.List.{append-nil, take_min, take-append-le, length-drop}
+use Rattle.std.proofs.lemmas.List.{take_min, take-append-le, length-drop}
 use Rattle.std.proofs.lemmas.List.Sums.{sum_by-cons}
 use Rattle.std.specs.Prelude.{◌==◌, ◌||◌, nat_lt, min, remove, slice_get, sum_by}
-use Rattle.std.specs.List.{flat_map, AllByRecursion, list_any}
+use Rattle.std.specs.List.{flat_map, list_any}
 use Rattle.sp_base.specs.declared.names.ConnNo.{ConnNo}
 use Rattle.sp_base.specs.declared.names.ReqNo.{ReqNo}
 use Rattle.sp_frames.specs.declared.fault.FrameFault.{FrameFault}
@@ -18,7 +18,7 @@ use Rattle.sp_frames.specs.Framing.{IsStop}
 use Rattle.sp_frames.specs.Banner.{banner}
 use Rattle.sp_frames.specs.Grammar.{spelling}
 use Rattle.sp_frames.specs.Reading.{step_of}
-use Rattle.sp_frames.specs.Stream.{stream_of, IsWhole}
+use Rattle.sp_frames.specs.Stream.{IsWhole}
 use Rattle.sp_frames.proofs.StreamLaws.{front, stream-append, each-append, one_whole}
 use Rattle.sp_hub.specs.declared.connection.Connection.{Connection}
 use Rattle.sp_hub.specs.declared.connection.OpenCall.{OpenCall}
@@ -32,9 +32,9 @@ use Rattle.sp_hub.specs.Task.{IsOpen, IsLowest, calls_in, calls_at, open_calls}
 use Rattle.sp_hub.proofs.Lists.{all_map}
 use Rattle.sp_server.specs.Serving.{reply_to, after, is_out, worked, performs, AreOpen, AreRounds, HandsOut}
 use Rattle.sp_server.specs.Session.{IsBegun, IsPart}
-use Rattle.sp_server.specs.Stdio.{connection, at_start, salt_for, salts_behind, AnswersFrame, Answers, IsAnswered, EndsAs, IsStdioOut, IsCutOff}
+use Rattle.sp_server.specs.Stdio.{connection, at_start, salt_for, salts_behind, AnswersFrame, Answers, EndsAs, IsStdioOut, IsCutOff}
 use Rattle.sp_server.proofs.EndLaws.{text_begins}
-use Rattle.sp_server.proofs.Octets.{bytes-append, bytes-back, bytes-drop}
+use Rattle.sp_server.proofs.Octets.{bytes-back, bytes-drop}
 use Rattle.sp_server.proofs.Shrinking.{queued, open_total, taken_less, worked_by_weight, round_less}
 
 -- ---- a round of work
@@ -61,6 +61,7 @@ some_lowest (t ∷ calls) above = with_first (some_lowest calls above).0 (some_l
       ),
     )
     lower r more low (inr least) = (Some r, (low.0, either (t.number.0 == r.0) _ low.1, (inr least, low.2)))
+
     with_first : (found : Option ReqNo) → IsLowest calls above found → (above.0 < t.number.0) ⊎ (t.number.0 ≤ above.0) → (found : Option ReqNo) × IsLowest (t ∷ calls) above found
     with_first None low (inl more) = (
       Some t.number,
@@ -263,8 +264,7 @@ out_of_split input salts split =
     let answers = some_answers split.frames at_start salts in
     let how = some_finish split.rest split.stop split.met in
     let hands = some_hands (after answers.1 (event.Ended connection how.0)) connection in
-    let few : length split.rest ≤ length input = rw (split.whole.whole, length-append (flat_map spelling split.frames) split.rest) (omega arith) in
-    (
+    let few : length split.rest ≤ length input = rw (split.whole.whole, length-append (flat_map spelling split.frames) split.rest) (omega arith) in (
       how.0,
       length input - length split.rest,
       (banner ++ answers.0) ++ flat_map spelling hands.0,
@@ -292,8 +292,7 @@ some_out input salts all = out_of_split input salts (some_split input all)
 frames_begin : (front more rest : List ℕ) (frames : List Frame) → IsBytes (front ++ more) → IsWhole front frames rest → (later : List Frame) × (left : List ℕ) × IsWhole (front ++ more) (frames ++ later) left
 frames_begin front more rest frames all is =
     let shape : front ++ more ≡ flat_map spelling frames ++ (rest ++ more) = ap (λ (t : List ℕ). t ++ more) is.whole ∙ append_assoc (flat_map spelling frames) rest more in
-    let split = some_split (rest ++ more) (bytes-back (flat_map spelling frames) (rest ++ more) (subst IsBytes shape all)) in
-    (
+    let split = some_split (rest ++ more) (bytes-back (flat_map spelling frames) (rest ++ more) (subst IsBytes shape all)) in (
       split.frames,
       split.rest,
       record {
@@ -315,8 +314,7 @@ begun_begins input salts text whole how offset all so out =
     let shape : (so.frames ++ so.later) ++ begins.0 ≡ so.frames ++ (so.later ++ begins.0) = append_assoc so.frames so.later begins.0 in
     let answers : Answers at_start (so.frames ++ (so.later ++ begins.0)) [] is.body out.before = subst (λ (fs : List Frame). Answers at_start fs [] is.body out.before) (frames ∙ shape) is.answers in
     let more = text_begins so.frames (so.later ++ begins.0) at_start [] so.body is.body so.last out.before so.answers answers in
-    let tail = flat_map spelling out.frames in
-    (
+    let tail = flat_map spelling out.frames in (
       more.0 ++ tail,
       out.whole ∙ ap (λ (t : List ℕ). t ++ tail) (is.begins ∙ ap (λ (t : List ℕ). banner ++ t) more.1 ∙ sym (append_assoc banner so.body more.0) ∙ ap (λ (t : List ℕ). t ++ more.0) (sym so.begins))
           ∙ append_assoc text more.0 tail,

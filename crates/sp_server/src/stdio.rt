@@ -47,11 +47,7 @@ impl From<Stop> for StdioEnd {
 }
 
 /// Serves one connection, whose frames take no salt.
-fn serve<I: Source, O: Sink>(
-    alloc: Global,
-    source: &mut I,
-    sink: &mut O,
-) -> Result<StdioEnd, Stop>
+fn serve<I: Source, O: Sink>(alloc: Global, source: &mut I, sink: &mut O) -> Result<StdioEnd, Stop>
     requires source { I.is_done source.old ≡ false }
     requires sink { O.is_done sink.old ≡ false }
     ensures serves { (drawn : Option (List ℕ))

@@ -44,7 +44,7 @@ returns-in_err-end-clause-serves g c = λ drawn.
     any_stop (IsServed (told (i.left c.args.source.now) (i.passed c.args.source.now) (o.held c.args.sink.now) drawn) (told (i.left c.take.new.self) (i.passed c.take.new.self) (o.held c.receive.new.sink) drawn))
     c.from_residual-in_err-end.result c.from_residual-in_err-end.ensures.0
     (λ s. cut c.loop-piece.session s c.in-Ok.piece (i.left c.args.source.now) (i.left c.loop-piece.source) (i.left c.take.new.self) (i.passed c.args.source.now) (i.passed c.loop-piece.source) (i.passed c.take.new.self)
-        (o.held c.args.sink.now) (o.held c.loop-piece.sink) (o.held c.receive.new.sink) drawn so c.in-Ok.ensures.left c.in-Ok.ensures.passed octets part)
+    (o.held c.args.sink.now) (o.held c.loop-piece.sink) (o.held c.receive.new.sink) drawn so c.in-Ok.ensures.left c.in-Ok.ensures.passed octets part)
 
 pub returns-in-Some-clause-serves : goal.returns-in-Some-clause-serves
 returns-in-Some-clause-serves g c = λ drawn.
