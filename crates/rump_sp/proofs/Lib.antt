@@ -5,3 +5,4 @@ pub mod CallLaws
 pub mod RunLaws
 pub mod TopLaws
 pub mod StdioLaws
+pub mod ShownLaws

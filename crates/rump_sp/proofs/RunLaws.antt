@@ -1,7 +1,9 @@
 -- The lines of a section, one after another.
-use Rattle.std.proofs.Common.{◌≡◌, ℕ, zero, suc, ◌+◌, ◌<◌, ◌≤◌, List, [], ◌∷◌, ◌++◌, length, get_or, take, refl, sym, ap, subst, ◌∙◌, arith, append_assoc, length-append}
+use Rattle.std.proofs.Common.{◌≡◌, inl, inr, ℕ, zero, suc, ◌+◌, ◌<◌, ◌≤◌, List, [], ◌∷◌, ◌++◌, length, get_or, take, refl, sym, ap, subst, ◌∙◌, arith, append_assoc, length-append}
 use Rattle.std.proofs.lemmas.List.{append-nil, take_more, length-take}
 use Rattle.std.specs.List.{AllByRecursion}
+use Rattle.std.specs.Prelude.{IsTrue}
+use Rattle.sp_base.specs.declared.call.Call.{Call}
 use Rattle.sp_base.specs.declared.names.Answer.{Answer}
 use Rattle.sp_base.specs.declared.names.Pid.{Pid}
 use Rattle.kern_model.specs.Journal.{IsLegal, HasOwnKeys}
@@ -10,11 +12,13 @@ use Rattle.kern_model.specs.declared.operation.Op.TheVariants.{Sys}
 use Rattle.kern_model.specs.declared.outcome.Outcome.{Outcome}
 use Rattle.sp_hub.specs.Kernel.{answer_at}
 use Rattle.sp_hub.specs.Machine.{Machine}
+use Rattle.sp_hub.specs.Verdict.{is_taken}
+use Rattle.guest_script.specs.Script.{IsLineCall, IsAskable}
 use Rattle.guest_script.specs.Row.{row_text}
 use Rattle.guest_script.specs.declared.script.Line.{Line}
 use Rattle.guest_script.specs.declared.script.Section.{Section}
 use Rattle.rump_sp.specs.Run.{request_key, guest_entry, attach_entry, call_entries, exit_entry, rows_from, ShowsRun}
-use Rattle.rump_sp.specs.Guest.{at_rest, IsAt, IsReady, IsAttached, IsCalled, AreCalled, HasEnded}
+use Rattle.rump_sp.specs.Guest.{at_rest, IsResting, IsReady, IsAttached, IsCalled, AreCalled, HasEnded}
 use Rattle.rump_sp.proofs.MachineLaws.{rests}
 
 -- what holds of each line holds of the line at a place
@@ -22,6 +26,14 @@ pub line_at : (P : Line → Type 0) (lines : List Line) (i : ℕ) (line : Line) 
 line_at P [] i line all lt is = absurd (omega arith)
 line_at P (x ∷ lines) zero line all lt is = subst P (sym is) all.0
 line_at P (x ∷ lines) (suc i) line all lt is = line_at P lines i line all.1 (omega arith) is
+
+-- the server takes what a line says
+said_taken : (call : Call) → IsLineCall call → IsTrue (is_taken call)
+said_taken call (inl e) = subst (λ (c : Call). IsTrue (is_taken c)) (sym e) refl
+said_taken call (inr close) = subst (λ (c : Call). IsTrue (is_taken c)) (sym close.1) refl
+
+pub taken_at : (lines : List Line) (i : ℕ) (line : Line) → AllByRecursion IsAskable lines → i < length lines → line ≡ get_or lines i line → IsTrue (is_taken line.call)
+taken_at lines i line all lt is = said_taken line.call (line_at IsAskable lines i line all lt is).said
 
 -- there is an entry for each line
 entries_len : (pid : Pid) (n : ℕ) (lines : List Line) (outcomes : List Outcome) → length outcomes ≡ length lines → length (call_entries pid n lines outcomes) ≡ length lines
@@ -52,7 +64,7 @@ rows_push guest n k (l ∷ lines) (o ∷ outcomes) line outcome e at =
     ∙ sym (append_assoc (row_text guest n l.text (answer_at o n)) (rows_from guest (n + 1) lines outcomes) (row_text guest k line.text (answer_at outcome k)))
 
 -- before the first line
-pub none_called : (m : Machine) (pid : Pid) (guest : List ℕ) (lines : List Line) (rows : List ℕ) → IsAt m pid 1 → rows ≡ [] → AreCalled m pid guest (take 0 lines) rows m
+pub none_called : (m : Machine) (pid : Pid) (guest : List ℕ) (lines : List Line) (rows : List ℕ) → IsResting m pid 1 → rows ≡ [] → AreCalled m pid guest (take 0 lines) rows m
 none_called m pid guest lines rows at empty = record {
   outcomes = [];
   each = refl;
@@ -69,7 +81,7 @@ ready_for m m1 pid guest lines rows i lt so =
 -- one line more
 pub one_more : (m m1 m2 : Machine) (pid : Pid) (guest : List ℕ) (lines : List Line) (rows rows' : List ℕ) (i : ℕ) (line : Line) (answer : Answer) → i < length lines → line ≡ get_or lines i line → length m.journal ≡ 1
     → AreCalled m pid guest (take i lines) rows m1
-    → ((pid : Pid) (last : ℕ) → IsAt m1 pid last → IsCalled m1 pid (i + 1 + 1) line.call answer m2)
+    → ((pid : Pid) (last : ℕ) → IsResting m1 pid last → IsCalled m1 pid (i + 1 + 1) line.call answer m2)
     → rows' ≡ rows ++ row_text guest (i + 1) line.text answer
     → AreCalled m pid guest (take (i + 1) lines) rows' m2
 one_more m m1 m2 pid guest lines rows rows' i line answer lt is begun so call written =
@@ -108,14 +120,14 @@ all_called m m1 pid guest lines lines' rows i le same so = let whole : take i li
     take_all (x ∷ xs) (suc i) le = ap (λ (ys : List Line). x ∷ ys) (take_all xs i (omega arith))
 
 -- a machine at rest after its attach
-pub attached_at : (pid : Pid) (m : Machine) → IsAttached pid m → IsAt m pid 1
+pub attached_at : (pid : Pid) (m : Machine) → IsAttached pid m → IsResting m pid 1
 attached_at pid m a = rests m _ pid 1 a.machine
 
 pub attached_len : (pid : Pid) (m : Machine) → IsAttached pid m → length m.journal ≡ 1
 attached_len pid m a = ap (λ (x : Machine). length x.journal) a.machine
 
 -- the calls leave the machine at rest
-pub called_at : (m m1 : Machine) (pid : Pid) (guest : List ℕ) (lines : List Line) (rows : List ℕ) → AreCalled m pid guest lines rows m1 → IsAt m1 pid (length lines + 1)
+pub called_at : (m m1 : Machine) (pid : Pid) (guest : List ℕ) (lines : List Line) (rows : List ℕ) → AreCalled m pid guest lines rows m1 → IsResting m1 pid (length lines + 1)
 called_at m m1 pid guest lines rows so = rests m1 _ pid _ so.machine
 
 pub rested : (m m1 : Machine) (pid : Pid) (guest : List ℕ) (lines : List Line) (rows : List ℕ) → AreCalled m pid guest lines rows m1 → (number : ℕ) × IsReady m1 number

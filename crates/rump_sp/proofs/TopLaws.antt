@@ -1,5 +1,5 @@
 -- What the program reads, shows and writes.
-use Rattle.std.proofs.Common.{◌≡◌, ◌⊎◌, inl, inr, ℕ, ◌^◌, true, List, [], ◌∷◌, Option, Some, None, Ok, Err, length, take, refl, sym, ap, arith}
+use Rattle.std.proofs.Common.{◌≡◌, ◌⊎◌, inl, inr, ℕ, ◌^◌, true, List, [], ◌∷◌, Option, Some, None, Ok, Err, length, take, refl, sym, ap, subst, ◌∙◌, arith}
 use Rattle.std.proofs.lemmas.Bool.Decides.{nat_tests}
 use Rattle.std.proofs.lemmas.List.{append-nil}
 use Rattle.std.specs.Io.KnownBytes.{Keeps, Appends}
@@ -14,7 +14,8 @@ use Rattle.guest_script.specs.declared.script.Section.{Section}
 use Rattle.rump_sp.specs.Run.{ShowsRun}
 use Rattle.rump_sp.specs.declared.failure.Failure.{Failure}
 use Rattle.rump_sp.specs.declared.failure.Failure.TheVariants.{Usage, TooLong, Line, Input, Output, BadFrame, Inside, TooMuch, Salt, NoMemory}
-use Rattle.rump_sp.specs.Top.{statuses, status_of, failure_by, failure_of, Shows, Prints, PrintsFront, HasFault, IsFaulty, IsScriptFailure}
+use Rattle.rump_sp.specs.Failure.{statuses, status_of, exit_status, told_of, message_of, Tells}
+use Rattle.rump_sp.specs.Top.{failure_by, failure_of, Shows, Prints, PrintsFront, IsNoScript, TellsFault, IsScriptFailure}
 
 -- ---- a script and what it shows
 
@@ -23,10 +24,10 @@ pub script_failed : (text : List ℕ) (fault : ScriptFault) → (fault ≡ out_o
 script_failed text fault (inl e) = inl (ap failure_of e)
 script_failed text fault (inr e) = by_kind fault.kind refl
   where
-    by_kind : (k : ScriptKind) → fault.kind ≡ k → IsScriptFailure text (failure_by k fault.line)
-    by_kind kind.TooLong q = inr (refl, (fault, (λ n. cc), e))
-    by_kind kind.NotReadYet q = inr (refl, (fault, (λ n. cc), e))
-    by_kind kind.NoMemory q = inl refl
+    by_kind : (k : ScriptKind) → fault.kind ≡ k → IsScriptFailure text (failure_of fault)
+    by_kind kind.TooLong q = inr (fault, record { read = e; not_memory = λ n. let never : kind.TooLong ≡ kind.NoMemory = sym q ∙ n in absurd cc }, refl)
+    by_kind kind.NotReadYet q = inr (fault, record { read = e; not_memory = λ n. let never : kind.NotReadYet ≡ kind.NoMemory = sym q ∙ n in absurd cc }, refl)
+    by_kind kind.NoMemory q = inl (ap (λ (k : ScriptKind). failure_by k fault.line) q)
 
 -- a script without a section shows nothing
 pub shows_nothing : (text : List ℕ) (script : Script) (sections : List Section) → script_of text ≡ Ok script → sections ≡ script.sections → sections ≡ [] → Shows text []
@@ -38,17 +39,19 @@ shows_rows text script sections section rows is same one run = (script, is, rw (
 
 -- ---- what is read
 
--- a fault of all that is read is a fault of what there was to read
-pub faulty : (left : Option (List ℕ)) (text : List ℕ) → IsAll left text → HasFault text → IsFaulty left
-faulty None text all has = tt
-faulty (Some t) text all has = rw all at has
+-- the fault of all that is read is told
+pub tells_fault : (left : Option (List ℕ)) (text : List ℕ) (failure : Failure) (tells : List ℕ → Type 0) → IsAll left text → IsScriptFailure text failure → status_of failure ≡ 65 → tells (message_of failure) → TellsFault left tells
+tells_fault None text failure tells all why is told = tt
+tells_fault (Some t) text failure tells all (inl e) is told = absurd (let never : 75 ≡ 65 = sym (ap status_of e) ∙ is in omega arith)
+tells_fault (Some t) text failure tells all (inr why) is told =
+    (why.0, subst (λ (l : List ℕ). IsNoScript l why.0) all why.1, subst (λ (f : Failure). tells (message_of f)) why.2 told)
 
 -- what is too long to be read is no script
-pub faulty_long : (left : Option (List ℕ)) → IsLonger left (2 ^ 24) → IsFaulty left
-faulty_long None longer = tt
-faulty_long (Some t) longer =
+pub tells_long : (left : Option (List ℕ)) (tells : List ℕ → Type 0) → IsLonger left (2 ^ 24) → tells (message_of TooLong) → TellsFault left tells
+tells_long None tells longer told = tt
+tells_long (Some t) tells longer told =
     let long : nat_lt (2 ^ 24) (length t) ≡ true = grind (arith, nat_tests) in
-    (too_long, (λ e. cc), rw long refl)
+    (too_long, record { read = rw long refl; not_memory = λ e. cc }, told)
 
 -- ---- what is written
 

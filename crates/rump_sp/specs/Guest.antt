@@ -38,15 +38,15 @@ abbrev pub at_rest : List Entry → Pid → ℕ → Machine
 at_rest journal pid last = running journal (resting pid last ∷ [])
 
 -- the guest has this process, its last request has this number, and nothing is under way
-abbrev pub IsAt : Machine → Pid → ℕ → Type 0
-IsAt m pid last = m ≡ at_rest m.journal pid last
+abbrev pub IsResting : Machine → Pid → ℕ → Type 0
+IsResting m pid last = m ≡ at_rest m.journal pid last
 
 -- nothing is under way, and the guest's last request has a number below n
 pub record IsReady (m : Machine) (n : ℕ) : Type 0 where
   pub pid : Pid
   pub last : ℕ
   pub below : last < n
-  pub at : IsAt m pid last
+  pub at : IsResting m pid last
 
 -- the server has a frame for the guest
 abbrev pub HasAnswer : Machine → Type 0

@@ -1,5 +1,6 @@
 pub mod Run
 pub mod Guest
+pub mod Words
+pub mod Failure
 pub mod Top
 pub mod Stdio
-pub mod Words

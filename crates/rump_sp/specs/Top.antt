@@ -8,8 +8,11 @@ use Rattle.guest_script.specs.declared.script.Script.{Script}
 use Rattle.guest_script.specs.declared.script.Section.{Section}
 use Rattle.guest_script.specs.Script.{script_of}
 use Rattle.rump_sp.specs.declared.failure.Failure.{Failure}
-use Rattle.rump_sp.specs.declared.failure.Failure.TheVariants.{Usage, TooLong, Line, Input, Output, BadFrame, Inside, TooMuch, Salt, NoMemory}
+use Rattle.rump_sp.specs.declared.failure.Failure.TheVariants.{TooLong, Line, NoMemory}
+use Rattle.rump_sp.specs.Failure.{message_of}
+use Rattle.rump_sp.specs.declared.words.Asked.{Asked}
 use Rattle.rump_sp.specs.Run.{ShowsRun}
+use Rattle.rump_sp.specs.Words.{asked_of}
 
 -- the failure that a script's fault of a kind is
 abbrev pub failure_by : ScriptKind → ℕ → Failure
@@ -20,23 +23,6 @@ failure_by kind.NoMemory line = NoMemory
 -- the failure that a script's fault is
 abbrev pub failure_of : ScriptFault → Failure
 failure_of fault = failure_by fault.kind fault.line
-
--- the exit statuses of the program
-abbrev pub statuses : List ℕ
-statuses = 0 ∷ 64 ∷ 65 ∷ 71 ∷ 74 ∷ 75 ∷ []
-
--- the exit status of a failure
-abbrev pub status_of : Failure → ℕ
-status_of Usage = 64
-status_of TooLong = 65
-status_of (Line line) = 65
-status_of Input = 74
-status_of Output = 74
-status_of (BadFrame offset) = 65
-status_of (Inside offset) = 65
-status_of TooMuch = 65
-status_of Salt = 71
-status_of NoMemory = 75
 
 -- what a script's sections show: nothing without a section, and the rows of a run of the one that there is
 abbrev pub ShowsSections : List Section → List ℕ → Type 0
@@ -62,15 +48,20 @@ abbrev pub PrintsFront : Option (List ℕ) → Option (List ℕ) → Option (Lis
 PrintsFront None held held' = ⊤
 PrintsFront (Some text) held held' = (written : List ℕ) × IsFront text written × Appends held held' written
 
--- a text is no script, and not for want of memory
-abbrev pub HasFault : List ℕ → Type 0
-HasFault text = (fault : ScriptFault) × (fault.kind ≢ kind.NoMemory) × (script_of text ≡ Err fault)
+-- a text is no script, and for this fault, which isn't want of memory
+pub record IsNoScript (text : List ℕ) (fault : ScriptFault) : Type 0 where
+  pub read : script_of text ≡ Err fault
+  pub not_memory : fault.kind ≢ kind.NoMemory
 
--- the text that is read is no script, where it is told
-abbrev pub IsFaulty : Option (List ℕ) → Type 0
-IsFaulty None = ⊤
-IsFaulty (Some text) = HasFault text
+-- where the text that is read is told, it is no script, and what is told is the message of its fault
+abbrev pub TellsFault : Option (List ℕ) → (List ℕ → Type 0) → Type 0
+TellsFault None tells = ⊤
+TellsFault (Some text) tells = (fault : ScriptFault) × IsNoScript text fault × tells (message_of (failure_of fault))
 
 -- a text shows nothing for want of memory, or since it is no script
 abbrev pub IsScriptFailure : List ℕ → Failure → Type 0
-IsScriptFailure text failure = (failure ≡ NoMemory) ⊎ (status_of failure ≡ 65) × HasFault text
+IsScriptFailure text failure = (failure ≡ NoMemory) ⊎ (fault : ScriptFault) × IsNoScript text fault × (failure ≡ failure_of fault)
+
+-- the program's words ask for this
+abbrev pub AsksFor : List (List ℕ) → Asked → Type 0
+AsksFor words asked = asked_of words ≡ Some asked

@@ -1,132 +1,94 @@
-//! A server and its one guest, in one process.
-ghost use Rattle.std.specs.Prelude.{◌≡◌, ℕ, IfOk, OnOk, IsTrue};
-ghost use Rattle.kern_model.specs.Act.{is_built};
-ghost use Rattle.sp_base.specs.Call.{IsProper};
-ghost use Rattle.sp_base.specs.declared.names.Pid.{Pid};
-ghost use Rattle.sp_frames.specs.Grammar.{Fits};
-ghost use Rattle.sp_hub.specs.Machine.{fresh_machine, played};
-ghost use Rattle.guest_script.specs.Script.{is_name};
-ghost use Rattle.rump_sp.specs.Run.{guest_connection};
-ghost use Rattle.rump_sp.specs.Guest.{HasAnswer, IsAt, IsReady, IsAttached, IsCalled, HasEnded};
+//! The command `bench`: a script is read and run, and its rows are written.
+ghost use Rattle.std.specs.Prelude.{◌≡◌, ◌≢◌, ◌⊎◌, Option, true, false, IfOk, IfErr, Contains};
+ghost use Rattle.std.specs.Io.KnownBytes.{Keeps};
+ghost use Rattle.sp_io.specs.Causes.{Rose};
+ghost use Rattle.rump_sp.specs.declared.failure.Failure.{Failure};
+ghost use Rattle.rump_sp.specs.Failure.{statuses, exit_status, told_of, Tells};
+ghost use Rattle.rump_sp.specs.Top.{Shows, Prints, PrintsFront, TellsFault, IsScriptFailure, failure_of};
 
-use crate::wire::Wire;
-use sp_base::{Answer, Call, ConnNo, NoMemory, Octets, Pid, ReqNo};
-use sp_frames::{Body, Frame};
-use sp_hub::{Event, Finish, Hub, Reply};
+use crate::failure::{Failure, fail};
+use crate::run::run;
+use guest_script::{Script, ScriptFault, ScriptKind};
+use sp_base::Octets;
+use sp_io::{Failed, Sink, Source, TakeFault, put_all, take_all};
 use std::alloc::Global;
 
-/// The number of the guest's connection.
-const GUEST: ConnNo = ConnNo(0);
+/// The most bytes of a script that are read: 16 MiB.
+const MOST_BYTES: u32 = 16_777_216;
 
-/// The server, and the two directions of its link with the guest.
-#[derive(Drop)]
-pub struct Bench {
-    pub hub: Hub,
-    pub requests: Wire,
-    pub answers: Wire,
-}
-
-/// An event of the server; its reply is any but want of memory.
-fn play(hub: &mut Hub, event: Event) -> Result<Reply, NoMemory>
-    ensures { IfOk result (λ reply. (reply, hub.new) ≡ played hub.old event) }
+/// The failure that a script's fault is.
+fn failure_of(fault: ScriptFault) -> Failure
+    ensures { result ≡ failure_of fault }
 {
-    match hub.play(event) {
-        Reply::NoMemory => Err(NoMemory),
-        reply => Ok(reply),
+    match fault.kind {
+        ScriptKind::TooLong => Failure::TooLong,
+        ScriptKind::NotReadYet => Failure::Line(fault.line),
+        ScriptKind::NoMemory => Failure::NoMemory,
     }
 }
 
-impl Bench {
-    /// A server to which nothing happened, with a guest that isn't connected yet.
-    pub fn fresh(alloc: Global) -> Result<Bench, NoMemory>
-        ensures { IfOk result (λ bench. bench.hub ≡ fresh_machine) }
-    {
-        Ok(Bench {
-            hub: Hub::fresh(alloc)?,
-            requests: Wire::fresh(alloc),
-            answers: Wire::fresh(alloc),
-        })
+/// What the script that a text is shows.
+fn shown(alloc: Global, text: &[u8]) -> Result<Octets, Failure>
+    ensures shows { IfOk result (Shows text.now) }
+    ensures fault { IfErr result (IsScriptFailure text.now) }
+{
+    let script = match Script::read(alloc, text) {
+        Ok(script) => script,
+        Err(fault) => return Err(failure_of(fault)),
+    };
+    match script.sections.slice() {
+        [] => Ok(Octets::none(alloc)),
+        [section] => Ok(run(alloc, section)?),
+        _ => unreachable!(),
     }
+}
 
-    /// Sends a frame of the guest to the server.
-    fn ask(&mut self, frame: &Frame) -> Result<Reply, NoMemory>
-        requires { Fits frame.now }
-        ensures { IfOk result (λ reply. (reply, self.new.hub) ≡ played self.old.hub (Event.Frame guest_connection frame.now 0)) }
-    {
-        let frame = self.requests.send(frame)?;
-        play(&mut self.hub, Event::Frame(GUEST, frame, 0))
-    }
+/// Reads a script from `input`, runs it, and writes the rows of its lines to `out`; gives the exit status.
+///
+/// What keeps it from its end is told in one line on `err`, whose own faults are passed over. The first cause decides, and nothing
+/// is written before the input was read to its end and the run is over.
+pub fn bench_main<I: Source, O: Sink, E: Sink>(
+    alloc: Global,
+    input: &mut I,
+    out: &mut O,
+    err: &mut E,
+) -> u8
+    requires input { I.is_done input.old ≡ false }
+    requires out { O.is_done out.old ≡ false }
+    requires err { E.is_done err.old ≡ false }
 
-    /// Sends the oldest frame of the server to the guest.
-    fn collect(&mut self) -> Result<Frame, NoMemory>
-        requires { HasAnswer self.old.hub }
-        ensures { IfOk result (λ frame. (Reply.Out frame, self.new.hub) ≡ played self.old.hub (Event.Take guest_connection)) }
-    {
-        match self.hub.take(GUEST) {
-            Reply::Out(frame) => self.answers.send(&frame),
-            _ => unreachable!(),
-        }
-    }
+    // Which status comes, when, and what is told. Want of memory is the one free cause.
+    ensures status { Contains statuses result }
+    ensures usage { result ≢ 64 }
+    ensures no_salt { result ≢ 71 }
+    ensures script { result ≡ 65 → TellsFault (I.left input.old) (Tells (E.faults err.old) (E.faults err.new) (E.held err.old) (E.held err.new)) }
+    ensures io { result ≡ 74 → Rose (I.faults input.old) (I.faults input.new) ⊎ Rose (O.faults out.old) (O.faults out.new) }
+    ensures told { (failure : Option Failure) × (result ≡ exit_status failure)
+        × Tells (E.faults err.old) (E.faults err.new) (E.held err.old) (E.held err.new) (told_of failure) }
 
-    /// Connects the guest and makes its process.
-    pub fn attach(&mut self, name: Octets) -> Result<Pid, NoMemory>
-        requires named { IsTrue (is_name name) }
-        requires fresh { self.old.hub ≡ fresh_machine }
-        ensures { IfOk result (λ pid. IsAttached pid self.new.hub) }
-    {
-        let Reply::Nothing = play(&mut self.hub, Event::Opened(GUEST))? else {
-            unreachable!();
-        };
-        let _ = name.slice();
-        let frame = Frame {
-            number: ReqNo(1),
-            body: Body::Guest { name },
-        };
-        let Reply::Done = self.ask(&frame)? else {
-            unreachable!();
-        };
-        match self.collect()?.body {
-            Body::Hello { pid } => Ok(pid),
-            _ => unreachable!(),
-        }
-    }
+    // What was read and written then.
+    ensures read { result ≡ 0 → I.ended input.new ≡ true }
+    ensures rows { result ≡ 0 → Prints (I.left input.old) (O.held out.old) (O.held out.new) }
+    ensures other { result ≢ 0 → PrintsFront (I.left input.old) (O.held out.old) (O.held out.new) }
+    ensures early { I.ended input.new ≡ false → Keeps (O.held out.old) (O.held out.new) }
 
-    /// Performs a call of the guest as the request of that number.
-    pub fn call(&mut self, number: u64, call: &Call) -> Result<Answer, NoMemory>
-        requires proper { IsProper call.now }
-        requires built { IsTrue (is_built call.now) }
-        requires ready { IsReady self.old.hub number }
-        ensures { IfOk result (λ answer. (pid : Pid) (last : ℕ) → IsAt self.old.hub pid last → IsCalled self.old.hub pid number call.now answer self.new.hub) }
-    {
-        let words = call.words();
-        let _ = words.slice();
-        let frame = Frame {
-            number: ReqNo(number),
-            body: Body::Sys {
-                num: call.num(),
-                words,
-            },
-        };
-        let Reply::Task(_) = self.ask(&frame)? else {
-            unreachable!();
-        };
-        let Reply::Done = play(&mut self.hub, Event::Work(GUEST, ReqNo(number)))? else {
-            unreachable!();
-        };
-        match self.collect()?.body {
-            Body::Answered(answer) => Ok(answer),
-            _ => unreachable!(),
-        }
-    }
-
-    /// Ends the guest's connection, and with it its process.
-    pub fn end(&mut self) -> Result<(), NoMemory>
-        requires { (number : ℕ) × IsReady self.old.hub number }
-        ensures { OnOk result ((pid : Pid) (last : ℕ) → IsAt self.old.hub pid last → HasEnded self.old.hub pid self.new.hub) }
-    {
-        let Reply::Nothing = play(&mut self.hub, Event::Ended(GUEST, Finish::Clean))? else {
-            unreachable!();
-        };
-        Ok(())
+    // What stays.
+    ensures input_open { I.is_done input.new ≡ false }
+    ensures out_open { O.is_done out.new ≡ false }
+    ensures err_open { E.is_done err.new ≡ false }
+{
+    let text = match take_all(alloc, input, MOST_BYTES) {
+        Ok(text) => text,
+        Err(TakeFault::Failed) => return fail(err, Failure::Input),
+        Err(TakeFault::NoMemory) => return fail(err, Failure::NoMemory),
+        Err(TakeFault::TooLong) => return fail(err, Failure::TooLong),
+    };
+    let rows = match shown(alloc, text.slice()) {
+        Ok(rows) => rows,
+        Err(failure) => return fail(err, failure),
+    };
+    match put_all(out, rows.slice()) {
+        Ok(()) => 0,
+        Err(Failed) => fail(err, Failure::Output),
     }
 }

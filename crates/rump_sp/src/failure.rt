@@ -1,10 +1,12 @@
 //! Why the program does not do what it was asked, and what it tells of it.
-ghost use Rattle.std.specs.Prelude.{◌≡◌, false};
-ghost use Rattle.rump_sp.specs.Top.{status_of};
+ghost use Rattle.std.specs.Prelude.{◌≡◌, ◌+◌, ◌≤◌, ◌++◌, length, false};
+ghost use Rattle.arrayvec.specs.ArrayString.{array_string_len};
+ghost use Rattle.rump_sp.specs.Failure.{status_of, number_text, line_text, message_of, Tells};
 
+use arrayvec::ArrayString;
 use itoa::Buffer;
 use sp_base::NoMemory;
-use sp_io::{Failed, Sink, put_all};
+use sp_io::{Sink, put_all};
 
 /// What kept the program from its end.
 #[derive(Clone, Copy, Debug, PartialEq, Eq)]
@@ -56,62 +58,73 @@ impl Failure {
         }
     }
 
-    /// Tells the failure in one line. A fault of the sink is passed over.
-    pub fn tell<E: Sink>(self, err: &mut E)
-        requires { E.is_done err.old ≡ false }
-        ensures { E.is_done err.new ≡ false }
+    /// The line that tells the failure.
+    #[tactic(auto, unfolding(crate::specs::Failure::message_of))]
+    fn message(self) -> Line
+        ensures { result.bytes ≡ message_of self }
     {
-        let _ = match self {
-            Failure::Usage => put_all(
-                err,
-                b"rump_sp: usage: rump_sp stdio|local|bench|server|guest|load [options]\n",
+        match self {
+            Failure::Usage => line_of(
+                "usage: rump_sp stdio|local|bench|server|guest|load [options]",
+                None,
+                "",
             ),
-            Failure::TooLong => put_all(err, b"rump_sp: script: script too long\n"),
-            Failure::Line(line) => put_numbered(
-                err,
-                b"rump_sp: script line ",
-                u64::from(line),
-                b": not read yet\n",
-            ),
-            Failure::Input => put_all(err, b"rump_sp: input fault\n"),
-            Failure::Output => put_all(err, b"rump_sp: output fault\n"),
-            Failure::BadFrame(offset) => {
-                put_numbered(err, b"rump_sp: stdio: bad frame at offset ", offset, b"\n")
+            Failure::TooLong => line_of("script: script too long", None, ""),
+            Failure::Line(line) => {
+                line_of("script line ", Some(u64::from(line)), ": not read yet")
             }
-            Failure::Inside(offset) => put_numbered(
-                err,
-                b"rump_sp: stdio: input ends inside a frame at offset ",
-                offset,
-                b"\n",
+            Failure::Input => line_of("input fault", None, ""),
+            Failure::Output => line_of("output fault", None, ""),
+            Failure::BadFrame(offset) => line_of("stdio: bad frame at offset ", Some(offset), ""),
+            Failure::Inside(offset) => line_of(
+                "stdio: input ends inside a frame at offset ",
+                Some(offset),
+                "",
             ),
-            Failure::TooMuch => put_all(err, b"rump_sp: stdio: input too long\n"),
-            Failure::Salt => put_all(err, b"rump_sp: no salt\n"),
-            Failure::NoMemory => put_all(err, b"rump_sp: out of memory\n"),
-        };
+            Failure::TooMuch => line_of("stdio: input too long", None, ""),
+            Failure::Salt => line_of("no salt", None, ""),
+            Failure::NoMemory => line_of("out of memory", None, ""),
+        }
     }
 }
 
-/// Puts a number between two texts.
-fn put_numbered<E: Sink>(
-    err: &mut E,
-    before: &[u8],
-    number: u64,
-    behind: &[u8],
-) -> Result<(), Failed>
-    requires { E.is_done err.old ≡ false }
-    ensures { E.is_done err.new ≡ false }
+/// A message with its line end. It takes no memory.
+type Line = ArrayString<160>;
+
+/// Adds a number, if there is one.
+fn push_number(line: &mut Line, number: Option<u64>)
+    requires { array_string_len line.old + 40 ≤ 160 }
+    ensures text { line.new.bytes ≡ line.old.bytes ++ number_text number }
+    ensures short { array_string_len line.new ≤ array_string_len line.old + 40 }
 {
-    let mut buffer = Buffer::new();
-    put_all(err, before)?;
-    put_all(err, buffer.format(number).as_bytes())?;
-    put_all(err, behind)
+    if let Some(number) = number {
+        let mut digits = Buffer::new();
+        line.push_str(digits.format(number));
+    }
 }
 
-/// Tells a failure, and gives its status.
+/// The line of a message: a text, a number if there is one, and a text behind it.
+fn line_of(before: &str, number: Option<u64>, behind: &str) -> Line
+    requires { length before.now + length behind.now ≤ 96 }
+    ensures { result.bytes ≡ line_text before.now number behind.now }
+{
+    let mut line = ArrayString::new();
+    line.push_str("rump_sp: ");
+    line.push_str(before);
+    push_number(&mut line, number);
+    line.push_str(behind);
+    line.push_str("\n");
+    line
+}
+
+/// Tells a failure in one line, and gives its status. A fault of the sink is passed over.
 pub fn fail<E: Sink>(err: &mut E, failure: Failure) -> u8
     requires { E.is_done err.old ≡ false }
-    ensures { result ≡ status_of failure }
+    ensures status { result ≡ status_of failure }
+    ensures told { Tells (E.faults err.old) (E.faults err.new) (E.held err.old) (E.held err.new) (message_of failure) }
+    ensures open { E.is_done err.new ≡ false }
 {
-    failure.tell(err);
+    let line = failure.message();
+    let _ = put_all(err, line.as_str().as_bytes());
     failure.status()
 }

@@ -3,8 +3,9 @@
 
 mod bench;
 mod failure;
+mod laws;
 mod run;
-mod script;
+mod runner;
 mod stdio;
 #[cfg(test)]
 mod tests;

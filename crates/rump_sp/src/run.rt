@@ -4,25 +4,25 @@ ghost use Rattle.std.specs.List.{AllByRecursion};
 ghost use Rattle.sp_base.specs.declared.names.Pid.{Pid};
 ghost use Rattle.guest_script.specs.Script.{IsAskable, IsRunnable};
 ghost use Rattle.rump_sp.specs.Run.{ShowsRun};
-ghost use Rattle.rump_sp.specs.Guest.{IsAt, IsReady, AreCalled};
+ghost use Rattle.rump_sp.specs.Guest.{IsResting, IsReady, AreCalled};
 
-use crate::bench::Bench;
+use crate::runner::Runner;
 use guest_script::{Section, put_row};
 use sp_base::{NoMemory, Octets};
 use std::alloc::Global;
 
 /// Performs the calls of a section's lines, and gives their rows.
-fn call_all(alloc: Global, bench: &mut Bench, section: &Section) -> Result<Octets, NoMemory>
+fn call_all(alloc: Global, runner: &mut Runner, section: &Section) -> Result<Octets, NoMemory>
     requires askable { AllByRecursion IsAskable section.now.lines }
-    requires ready { (pid : Pid) × IsAt bench.old.hub pid 1 }
-    requires begun { length bench.old.hub.journal ≡ 1 }
-    ensures { IfOk result (λ rows. (pid : Pid) → IsAt bench.old.hub pid 1 → AreCalled bench.old.hub pid section.now.name section.now.lines rows bench.new.hub) }
+    requires ready { (pid : Pid) × IsResting runner.old.hub pid 1 }
+    requires begun { length runner.old.hub.journal ≡ 1 }
+    ensures { IfOk result (λ rows. (pid : Pid) → IsResting runner.old.hub pid 1 → AreCalled runner.old.hub pid section.now.name section.now.lines rows runner.new.hub) }
 {
     let mut rows = Octets::none(alloc);
     let lines = section.lines.slice();
     for (i, line) in lines.iter().enumerate() {
         let number = i as u64 + 1;
-        let answer = bench.call(number + 1, &line.call)?;
+        let answer = runner.call(number + 1, &line.call)?;
         let name = section.name.slice();
         put_row(alloc, &mut rows, name, number, line.text.slice(), &answer)?;
     }
@@ -35,11 +35,11 @@ pub fn run(alloc: Global, section: &Section) -> Result<Octets, NoMemory>
     requires { IsRunnable section.now }
     ensures { IfOk result (ShowsRun section.now) }
 {
-    let mut bench = Bench::fresh(alloc)?;
+    let mut runner = Runner::fresh(alloc)?;
     let name = Octets::of(alloc, section.name.slice())?;
-    bench.attach(name)?;
-    let rows = call_all(alloc, &mut bench, section)?;
-    bench.end()?;
-    let _journal = bench.hub.journal();
+    runner.attach(name)?;
+    let rows = call_all(alloc, &mut runner, section)?;
+    runner.end()?;
+    let _journal = runner.hub.journal();
     Ok(rows)
 }

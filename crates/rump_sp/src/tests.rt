@@ -175,7 +175,7 @@ fn faults(rt: HostRuntime) -> Result<(), Fail> {
     let row = "a.1 rump 1 getpid = 2\n";
     let input = "rump_sp: input fault\n";
     let output = "rump_sp: output fault\n";
-    let line = "rump_sp: script line ";
+    let line = "rump_sp: script line 1: not read yet\n";
     let script = "guest a\ngetpid\n";
     let rows: [(
         &str,
@@ -185,7 +185,7 @@ fn faults(rt: HostRuntime) -> Result<(), Fail> {
         u8,
         &str,
         &str,
-    ); 9] = [
+    ); 10] = [
         (script, &[], &[], &[], 0, row, ""),
         (script, &[0], &[], &[], 74, "", input),
         (script, &[1], &[], &[], 74, "", input),
@@ -194,6 +194,7 @@ fn faults(rt: HostRuntime) -> Result<(), Fail> {
         (script, &[], &[1], &[], 0, row, ""),
         (script, &[1], &[0], &[], 74, "", input),
         (script, &[], &[0], &[0], 74, "", ""),
+        ("frob\n", &[], &[], &[0], 65, "", ""),
         ("frob\n", &[], &[], &[1], 65, "", line),
     ];
     for (script, input, out, err, status, written, message) in rows {

@@ -1,15 +1,18 @@
 //! The program over a source and two sinks.
-ghost use Rattle.std.specs.Prelude.{◌≡◌, ◌≢◌, ◌⊎◌, true, false, None, Some, map, Contains};
+ghost use Rattle.std.specs.Prelude.{◌≡◌, ◌≢◌, ◌⊎◌, Option, true, false, None, map, Contains};
 ghost use Rattle.std.specs.Io.KnownBytes.{Keeps};
 ghost use Rattle.sp_io.specs.Causes.{Rose};
 ghost use Rattle.sp_server.specs.Stdio.{IsServed};
 ghost use Rattle.sp_server.specs.declared.stdio.StdioEnd.{StdioEnd};
-ghost use Rattle.rump_sp.specs.Stdio.{end_status, HasEndCause};
-ghost use Rattle.rump_sp.specs.Top.{statuses, Prints, PrintsFront, IsFaulty};
+ghost use Rattle.rump_sp.specs.declared.failure.Failure.{Failure};
+ghost use Rattle.rump_sp.specs.Failure.{statuses, exit_status, told_of, Tells};
+ghost use Rattle.rump_sp.specs.Stdio.{end_status, end_message, HasEndCause};
+ghost use Rattle.rump_sp.specs.Top.{Prints, PrintsFront, TellsFault, AsksFor};
 ghost use Rattle.rump_sp.specs.Words.{asked_of};
 
+use crate::bench::bench_main;
 use crate::failure::{Failure, fail};
-use crate::script::bench_main;
+
 use crate::stdio::stdio_main;
 use crate::words::{Asked, read_words};
 use sp_base::NoMemory;
@@ -34,25 +37,40 @@ pub fn rump_main<W: AsStr, S: Salt, I: Source, O: Sink, E: Sink>(
     requires out { O.is_done out.old ≡ false }
     requires err { E.is_done err.old ≡ false }
 
-    // Which status comes, and when. Want of memory is the one free cause.
+    // Which status comes, when, and what is told. Want of memory is the one free cause.
     ensures status { Contains statuses result }
     ensures usage { result ≡ 64 → asked_of (map W.text words.now) ≡ None }
+    ensures no_salt { result ≡ 71 → Rose (S.faults salt.old) (S.faults salt.new) }
     ensures io { result ≡ 74 → Rose (I.faults input.old) (I.faults input.new) ⊎ Rose (O.faults out.old) (O.faults out.new) }
     ensures read { result ≡ 0 → I.ended input.new ≡ true }
+    ensures told { (failure : Option Failure) × (result ≡ exit_status failure)
+        × Tells (E.faults err.old) (E.faults err.new) (E.held err.old) (E.held err.new) (told_of failure) }
 
-    // What a script's guests do, and what is written of it.
-    ensures script { asked_of (map W.text words.now) ≡ Some Asked.Bench → result ≡ 65 → IsFaulty (I.left input.old) }
-    ensures rows { asked_of (map W.text words.now) ≡ Some Asked.Bench → result ≡ 0 → Prints (I.left input.old) (O.held out.old) (O.held out.new) }
-    ensures other { asked_of (map W.text words.now) ≡ Some Asked.Bench → result ≢ 0 → PrintsFront (I.left input.old) (O.held out.old) (O.held out.new) }
-    ensures early { asked_of (map W.text words.now) ≡ Some Asked.Bench → I.ended input.new ≡ false → Keeps (O.held out.old) (O.held out.new) }
+    // What a script's guests do, and what is written of it; it takes no salt.
+    ensures no_salt_needed { AsksFor (map W.text words.now) Asked.Bench → result ≢ 71 }
+    ensures script { AsksFor (map W.text words.now) Asked.Bench → result ≡ 65
+        → TellsFault (I.left input.old) (Tells (E.faults err.old) (E.faults err.new) (E.held err.old) (E.held err.new)) }
+    ensures rows { AsksFor (map W.text words.now) Asked.Bench → result ≡ 0 → Prints (I.left input.old) (O.held out.old) (O.held out.new) }
+    ensures other { AsksFor (map W.text words.now) Asked.Bench → result ≢ 0 → PrintsFront (I.left input.old) (O.held out.old) (O.held out.new) }
+    ensures early { AsksFor (map W.text words.now) Asked.Bench → I.ended input.new ≡ false → Keeps (O.held out.old) (O.held out.new) }
 
     // How one connection is served.
-    ensures stdio { asked_of (map W.text words.now) ≡ Some Asked.Stdio → (end : StdioEnd) × (result ≡ end_status end)
-        × IsServed (I.left input.old) (I.left input.new) (I.passed input.old) (I.passed input.new) (O.held out.old) (O.held out.new) end
-        × HasEndCause end (I.ended input.new) (I.faults input.old) (I.faults input.new) (O.faults out.old) (O.faults out.new) }
+    ensures stdio { AsksFor (map W.text words.now) Asked.Stdio → (end : StdioEnd) × (result ≡ end_status end)
+        × IsServed
+        (record { left = I.left input.old; passed = I.passed input.old; held = O.held out.old; drawn = S.drawn salt.old })
+        (record { left = I.left input.new; passed = I.passed input.new; held = O.held out.new; drawn = S.drawn salt.new }) end
+        × HasEndCause end (I.ended input.new) (I.faults input.old) (I.faults input.new)
+        (O.faults out.old) (O.faults out.new) (S.faults salt.old) (S.faults salt.new)
+        × Tells (E.faults err.old) (E.faults err.new) (E.held err.old) (E.held err.new) (end_message end) }
 
     // Where the words are wrong, nothing is read or written.
     ensures wrong { asked_of (map W.text words.now) ≡ None → ((result ≡ 64) ⊎ (result ≡ 75)) × (input.new ≡ input.old) × (out.new ≡ out.old) }
+
+    // What stays: by now no frame takes a salt.
+    ensures salt { salt.new ≡ salt.old }
+    ensures input_open { I.is_done input.new ≡ false }
+    ensures out_open { O.is_done out.new ≡ false }
+    ensures err_open { E.is_done err.new ≡ false }
 {
     match read_words(alloc, words) {
         Ok(Some(Asked::Stdio)) => stdio_main(alloc, input, salt, out, err),

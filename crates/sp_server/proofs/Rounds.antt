@@ -8,10 +8,11 @@ use Rattle.sp_base.specs.declared.names.ReqNo.{ReqNo}
 use Rattle.sp_frames.specs.declared.frame.Frame.{Frame}
 use Rattle.sp_frames.specs.Grammar.{spelling}
 use Rattle.sp_hub.specs.declared.connection.OpenCall.{OpenCall}
+use Rattle.sp_hub.specs.declared.event.Event.{Event}
 use Rattle.sp_hub.specs.declared.event.Event.TheVariants as event
 use Rattle.sp_hub.specs.declared.event.Reply.{Reply}
 use Rattle.sp_hub.specs.declared.event.Reply.TheVariants as reply
-use Rattle.sp_hub.specs.Machine.{Machine, Played, PlaysOrStays, played}
+use Rattle.sp_hub.specs.Machine.{Machine, Played, Plays}
 use Rattle.sp_hub.specs.Task.{IsLowest, open_calls}
 use Rattle.sp_server.specs.Serving.{reply_to, after, is_done, worked, performs, AreOpen, AreRounds, HandsOut, HandsOutOne}
 
@@ -19,9 +20,9 @@ abbrev pub zeroth : ReqNo
 zeroth = record { 0 = 0 }
 
 -- an answer that isn't for want of memory is the machine's
-pub plays_is : (said : Played) (m : Machine) (answer : Reply) (n : Machine) → PlaysOrStays said m answer n → answer ≢ reply.NoMemory → (said.0 ≡ answer) × (said.1 ≡ n)
-plays_is said m answer n (inl e) ne = (sym (ap (λ (p : Played). p.0) e), sym (ap (λ (p : Played). p.1) e))
-plays_is said m answer n (inr k) ne = absurd (ne k.0)
+pub plays_is : (m : Machine) (event : Event) (answer : Reply) (n : Machine) → Plays m event answer n → answer ≢ reply.NoMemory → (reply_to m event ≡ answer) × (after m event ≡ n)
+plays_is m event answer n (inl e) ne = (sym (ap (λ (p : Played). p.0) e), sym (ap (λ (p : Played). p.1) e))
+plays_is m event answer n (inr k) ne = absurd (ne k.answers)
 
 -- ---- a round
 
@@ -46,10 +47,10 @@ worked_by start c m n above r performed performed' low is did so = λ numbers ar
     (all.0, all.1, rw (is) all.2, rw (is, did, or_assoc performed (is_done (reply_to m (event.Work c r))) (performs (after m (event.Work c r)) c numbers)) all.3)
 
 pub one_worked : (start : Machine) (c : ConnNo) (m n : Machine) (above r : ReqNo) (answer : Reply) (performed performed' done : Bool)
-    → IsLowest (open_calls m c) above (Some r) → PlaysOrStays (played m (event.Work c r)) m answer n → (answer ≢ reply.NoMemory) × (done ≡ is_done answer) → performed' ≡ (performed || done)
+    → IsLowest (open_calls m c) above (Some r) → Plays m (event.Work c r) answer n → (answer ≢ reply.NoMemory) × (done ≡ is_done answer) → performed' ≡ (performed || done)
     → IsRoundSoFar start c m above performed → IsRoundSoFar start c n r performed'
 one_worked start c m n above r answer performed performed' done low plays kept sum so =
-    let both = plays_is (played m (event.Work c r)) m answer n plays kept.0 in
+    let both = plays_is m (event.Work c r) answer n plays kept.0 in
     worked_by start c m n above r performed performed' low (sym both.1) (sum ∙ ap (λ b. performed || b) (kept.1 ∙ ap is_done (sym both.0))) so
 
 or_false : (a : Bool) → (a || false) ≡ a

@@ -9,6 +9,8 @@ use Rattle.std.specs.Io.KnownBytes.{Appends}
 use Rattle.sp_frames.specs.declared.fault.FrameFault.{FrameFault}
 use Rattle.sp_frames.specs.declared.fault.FrameFault.TheVariants as frame_fault
 use Rattle.sp_frames.specs.declared.frame.Frame.{Frame}
+use Rattle.sp_frames.specs.Fields.{IsBytes}
+use Rattle.sp_frames.specs.Banner.{banner}
 use Rattle.sp_frames.specs.Grammar.{spelling}
 use Rattle.sp_frames.specs.Stream.{IsWhole}
 use Rattle.sp_frames.specs.Faults.{HasFault, NoFault}
@@ -18,14 +20,12 @@ use Rattle.sp_hub.specs.declared.event.Finish.{Finish}
 use Rattle.sp_hub.specs.declared.event.Finish.TheVariants as finish
 use Rattle.sp_hub.specs.Machine.{Machine}
 use Rattle.sp_io.proofs.Known.{appends_then}
+use Rattle.sp_server.proofs.Octets.{bytes-append}
 use Rattle.sp_server.specs.declared.session.Session.{Session}
-use Rattle.sp_server.specs.declared.session.Stop.{Stop}
-use Rattle.sp_server.specs.declared.session.Stop.TheVariants as stop
-use Rattle.sp_server.specs.declared.stdio.StdioEnd.{StdioEnd}
 use Rattle.sp_server.specs.declared.stdio.StdioEnd.TheVariants as end
 use Rattle.sp_server.specs.Serving.{after, HandsOut}
-use Rattle.sp_server.specs.Stdio.{connection, at_start, banner, most_input, AnswersFrame, Answers, IsAnswered, EndsAs, IsStdioOut, IsUnended, IsCutOff, Serves}
-use Rattle.sp_server.specs.Session.{end_of, IsBehind, IsAt, IsMet, IsQueueFront, IsAnswerFront, IsCutBehind, IsServedBehind, IsBrokenOff}
+use Rattle.sp_server.specs.Stdio.{connection, at_start, most_input, AnswersFrame, Answers, IsAnswered, EndsAs, IsStdioOut, IsUnended, Serves}
+use Rattle.sp_server.specs.Session.{IsBehind, IsAt, IsMet, IsQueueFront, IsAnswerFront, IsPart, IsPartBehind, IsServedBehind}
 
 -- ---- known bytes
 
@@ -36,15 +36,15 @@ appends_nothing (Some xs) = sym (append-nil xs)
 
 -- ---- frames and their answers
 
-pub answers_push : (start m n : Machine) (frames : List Frame) (f : Frame) (body text : List ℕ) → Answers start frames body m → AnswersFrame m f text n → Answers start (frames ++ f ∷ []) (body ++ text) n
-answers_push start m n [] f body text all one = (n, text, [], subst (λ m. AnswersFrame m f text n) all.1 one, (refl, refl), ap (λ b. b ++ text) all.0 ∙ sym (append-nil text))
+pub answers_push : (start m n : Machine) (frames : List Frame) (f : Frame) (body text : List ℕ) → Answers start frames [] body m → AnswersFrame m f 0 text n → Answers start (frames ++ f ∷ []) [] (body ++ text) n
+answers_push start m n [] f body text all one = (n, text, [], subst (λ m. AnswersFrame m f 0 text n) all.1 one, (refl, refl), ap (λ b. b ++ text) all.0 ∙ sym (append-nil text))
 answers_push start m n (g ∷ frames) f body text all one =
     (all.0, all.1, all.2 ++ text, all.3, answers_push all.0 m n frames f all.2 text all.4 one, ap (λ b. b ++ text) all.5 ∙ append_assoc all.1 all.2 text)
 
 -- one frame more is answered
 pub one_behind : (old held : Held) (m n : Machine) (input before text : List ℕ) (f : Frame)
     → ((fed : List ℕ) (handed : List Frame) → Follows fed handed old → Follows fed (handed ++ f ∷ []) held)
-    → AnswersFrame m f text n → IsBehind old m input before → IsBehind held n input (before ++ text)
+    → AnswersFrame m f 0 text n → IsBehind old m input before → IsBehind held n input (before ++ text)
 one_behind old held m n input before text f next one so = record {
   handed = so.handed ++ f ∷ [];
   body = so.body ++ text;
@@ -54,7 +54,7 @@ one_behind old held m n input before text f next one so = record {
 }
 
 -- all that were ready are answered
-pub all_behind : (held : Held) (m : Machine) (input text : List ℕ) → held.ready ≡ [] → IsBehind held m input text → IsAnswered input text held.rest m
+pub all_behind : (held : Held) (m : Machine) (input text : List ℕ) → held.ready ≡ [] → IsBehind held m input text → IsAnswered input [] text held.rest m
 all_behind held m input text none so = record {
   frames = so.handed;
   body = so.body;
@@ -66,7 +66,7 @@ all_behind held m input text none so = record {
 -- what is answered, once more was fed
 pub behind : (old held : Held) (m : Machine) (input piece text : List ℕ) → old.ready ≡ []
     → ((fed : List ℕ) (handed : List Frame) → Follows fed handed old → Follows (fed ++ piece) handed held)
-    → IsAnswered input text old.rest m → IsBehind held m (input ++ piece) text
+    → IsAnswered input [] text old.rest m → IsBehind held m (input ++ piece) text
 behind old held m input piece text none feeds is = record {
   handed = is.frames;
   body = is.body;
@@ -75,62 +75,65 @@ behind old held m input piece text none feeds is = record {
   begins = is.begins;
 }
 
--- ---- what is cut off
+-- ---- parts of what is to be written
 
--- nothing is cut off of what is answered so far
-pub cut_begun : (input text rest body : List ℕ) (frames later : List Frame) (m : Machine) → IsWhole input (frames ++ later) rest → Answers at_start frames body m → text ≡ banner ++ body → IsCutOff input text
-cut_begun input text rest body frames later m whole answers begins = record {
-  front = input;
-  more = [];
+-- what is written for first frames of the input is a part of it
+pub part_begun : (input text rest body : List ℕ) (frames later : List Frame) (m : Machine) → IsWhole input (frames ++ later) rest → Answers at_start frames [] body m → text ≡ banner ++ body → IsPart input text
+part_begun input text rest body frames later m whole answers begins = record {
   whole = text;
   count = length text;
-  begins = sym (append-nil input);
-  written = inl (frames, later, rest, body, m, whole, answers, begins);
+  written = inl (record { front = input; more = []; frames = frames; later = later; rest = rest; body = body; last = m; is = sym (append-nil input); whole = whole; answers = answers; begins = begins });
   cut = sym (take-length text);
 }
 
-pub cut_answered : (input text rest : List ℕ) (m : Machine) → IsAnswered input text rest m → IsCutOff input text
-cut_answered input text rest m is = cut_begun input text rest is.body is.frames [] m (subst (λ frames. IsWhole input frames rest) (sym (append-nil is.frames)) is.whole) is.answers is.begins
+pub part_answered : (input text rest : List ℕ) (m : Machine) → IsAnswered input [] text rest m → IsPart input text
+part_answered input text rest m is = part_begun input text rest is.body is.frames [] m (subst (λ frames. IsWhole input frames rest) (sym (append-nil is.frames)) is.whole) is.answers is.begins
 
--- more input changes nothing of what is cut off
-pub cut_more : (input more text : List ℕ) → IsCutOff input text → IsCutOff (input ++ more) text
-cut_more input more text is = record {
-  front = is.front;
-  more = is.more ++ more;
-  whole = is.whole;
-  count = is.count;
-  begins = ap (λ t. t ++ more) is.begins ∙ append_assoc is.front is.more more;
-  written = is.written;
-  cut = is.cut;
+-- and it is a part of what is to be written for more input
+pub part_unfed : (input more text rest : List ℕ) (m : Machine) → IsAnswered input [] text rest m → IsPart (input ++ more) text
+part_unfed input more text rest m is = record {
+  whole = text;
+  count = length text;
+  written = inl (record { front = input; more = more; frames = is.frames; later = []; rest = rest; body = is.body; last = m; is = refl; whole = subst (λ frames. IsWhole input frames rest) (sym (append-nil is.frames)) is.whole; answers = is.answers; begins = is.begins });
+  cut = sym (take-length text);
 }
 
 -- first bytes of what is to be written for a frame
-cut_whole : (held : Held) (m n : Machine) (input before whole text : List ℕ) (f : Frame) (handed later : List Frame) (body rest : List ℕ) (count : ℕ)
-    → IsWhole input ((handed ++ f ∷ []) ++ later) rest → Answers at_start handed body m → before ≡ banner ++ body
-    → AnswersFrame m f whole n → text ≡ take count whole → IsCutOff input (before ++ text)
-cut_whole held m n input before whole text f handed later body rest count all answers begins one is = record {
-  front = input;
-  more = [];
+part_whole : (held : Held) (m n : Machine) (input before whole text : List ℕ) (f : Frame) (handed later : List Frame) (body rest : List ℕ) (count : ℕ)
+    → IsWhole input ((handed ++ f ∷ []) ++ later) rest → Answers at_start handed [] body m → before ≡ banner ++ body
+    → AnswersFrame m f 0 whole n → text ≡ take count whole → IsPart input (before ++ text)
+part_whole held m n input before whole text f handed later body rest count all answers begins one is = record {
   whole = before ++ whole;
   count = length before + count;
-  begins = sym (append-nil input);
-  written = inl (handed ++ f ∷ [], later, rest, body ++ whole, n, all, answers_push at_start m n handed f body whole answers one, ap (λ t. t ++ whole) begins ∙ append_assoc banner body whole);
+  written = inl (record {
+    front = input;
+    more = [];
+    frames = handed ++ f ∷ [];
+    later = later;
+    rest = rest;
+    body = body ++ whole;
+    last = n;
+    is = sym (append-nil input);
+    whole = all;
+    answers = answers_push at_start m n handed f body whole answers one;
+    begins = ap (λ t. t ++ whole) begins ∙ append_assoc banner body whole;
+  });
   cut = ap (λ t. before ++ t) is ∙ sym (take-append-add before whole count);
 }
 
-pub cut_answer : (old held : Held) (m : Machine) (input before text : List ℕ) (f : Frame)
+pub part_answer : (old held : Held) (m : Machine) (input before text : List ℕ) (f : Frame)
     → ((fed : List ℕ) (handed : List Frame) → Follows fed handed old → Follows fed (handed ++ f ∷ []) held)
-    → IsAnswerFront m f text → IsBehind old m input before → IsCutOff input (before ++ text)
-cut_answer old held m input before text f next (inl none) so =
-    subst (λ t. IsCutOff input t) (sym (ap (λ t. before ++ t) none ∙ append-nil before))
-    (cut_begun input before old.rest so.body so.handed old.ready m so.follows so.answers so.begins)
-cut_answer old held m input before text f next (inr part) so =
-    cut_whole held m part.1 input before part.0 text f so.handed held.ready so.body held.rest part.2 (next input so.handed so.follows) so.answers so.begins part.3 part.4
+    → IsAnswerFront m f text → IsBehind old m input before → IsPart input (before ++ text)
+part_answer old held m input before text f next (inl none) so =
+    subst (λ t. IsPart input t) (sym (ap (λ t. before ++ t) none ∙ append-nil before))
+    (part_begun input before old.rest so.body so.handed old.ready m so.follows so.answers so.begins)
+part_answer old held m input before text f next (inr part) so =
+    part_whole held m part.1 input before part.0 text f so.handed held.ready so.body held.rest part.2 (next input so.handed so.follows) so.answers so.begins part.3 part.4
 
 -- ---- the end
 
-pub ended : (input before rest : List ℕ) (offset : ℕ) (how : Finish) (m n last : Machine) (frames : List Frame) → IsAnswered input before rest m → EndsAs how rest → offset + length rest ≡ length input
-    → n ≡ after m (event.Ended connection how) → HandsOut n connection frames last → IsStdioOut input how offset (before ++ flat_map spelling frames)
+pub ended : (input before rest : List ℕ) (offset : ℕ) (how : Finish) (m n last : Machine) (frames : List Frame) → IsAnswered input [] before rest m → EndsAs how rest → offset + length rest ≡ length input
+    → n ≡ after m (event.Ended connection how) → HandsOut n connection frames last → IsStdioOut input [] how offset (before ++ flat_map spelling frames)
 ended input before rest offset how m n last frames is ends place same hands = record {
   front = before;
   rest = rest;
@@ -144,32 +147,24 @@ ended input before rest offset how m n last frames is ends place same hands = re
   whole = refl;
 }
 
-pub cut_end : (input before rest text : List ℕ) (offset : ℕ) (how : Finish) (m n : Machine) → IsAnswered input before rest m → EndsAs how rest → offset + length rest ≡ length input
-    → n ≡ after m (event.Ended connection how) → IsQueueFront n text → IsCutOff input (before ++ text)
-cut_end input before rest text offset how m n is ends place same (inl none) = subst (λ t. IsCutOff input t) (sym (ap (λ t. before ++ t) none ∙ append-nil before)) (cut_answered input before rest m is)
-cut_end input before rest text offset how m n is ends place same (inr part) = record {
-  front = input;
-  more = [];
+pub part_end : (input before rest text : List ℕ) (offset : ℕ) (how : Finish) (m n : Machine) → IsAnswered input [] before rest m → EndsAs how rest → offset + length rest ≡ length input
+    → n ≡ after m (event.Ended connection how) → IsQueueFront n text → IsPart input (before ++ text)
+part_end input before rest text offset how m n is ends place same (inl none) = subst (λ t. IsPart input t) (sym (ap (λ t. before ++ t) none ∙ append-nil before)) (part_answered input before rest m is)
+part_end input before rest text offset how m n is ends place same (inr part) = record {
   whole = before ++ flat_map spelling part.0;
   count = length before + part.2;
-  begins = sym (append-nil input);
   written = inr (how, offset, ended input before rest offset how m n part.1 part.0 is ends place same part.3);
   cut = ap (λ t. before ++ t) part.4 ∙ sym (take-append-add before (flat_map spelling part.0) part.2);
 }
 
 -- nothing more is written
-pub cut_here : (held : Option (List ℕ)) (input before rest : List ℕ) (m : Machine) → IsAnswered input before rest m → IsCutBehind input before held held
-cut_here held input before rest m is = ([], appends_nothing held, subst (λ t. IsCutOff input t) (sym (append-nil before)) (cut_answered input before rest m is))
-
--- a stop is the end of a run that is cut off
-pub cut_serves : (s : Stop) (input before : List ℕ) (held held' : Option (List ℕ)) → IsCutBehind input before held held' → IsServedBehind (end_of s) input before held held'
-cut_serves stop.Output input before held held' is = is
-cut_serves stop.NoMemory input before held held' is = is
+pub part_here : (held : Option (List ℕ)) (input before rest : List ℕ) (m : Machine) → IsAnswered input [] before rest m → IsPartBehind input before held held
+part_here held input before rest m is = ([], appends_nothing held, subst (λ t. IsPart input t) (sym (append-nil before)) (part_answered input before rest m is))
 
 -- ---- offsets
 
 -- what is left is part of the input
-pub rest_within : (input text rest : List ℕ) (m : Machine) → IsAnswered input text rest m → length rest ≤ length input
+pub rest_within : (input text rest : List ℕ) (m : Machine) → IsAnswered input [] text rest m → length rest ≤ length input
 rest_within input text rest m is = rw (is.whole.whole, length-append (flat_map spelling is.frames) rest) (omega arith)
 
 pub rest_fed : (s : Session) (fault : Option FrameFault) (input text : List ℕ) → IsAt s fault input text → length s.framer.rest ≤ s.fed
@@ -208,32 +203,25 @@ always_err (Err e) y = y
 
 -- ---- the beginning
 
-pub cut_at_start : (held : Held) (m : Option (List ℕ)) → Follows [] [] held → IsCutBehind [] [] m m
-cut_at_start held m follows = (
-  [],
-  appends_nothing m,
-  record {
-    front = [];
-    more = [];
-    whole = banner ++ [];
-    count = 0;
-    begins = refl;
-    written = inl ([], held.ready, held.rest, [], at_start, follows, (refl, refl), refl);
-    cut = refl;
-  },
-)
+pub part_at_start : (held : Held) (m : Option (List ℕ)) → Follows [] [] held → IsPartBehind [] [] m m
+part_at_start held m follows = ([], appends_nothing m, at_banner held [] 0 refl follows)
+  where
+    at_banner : (held : Held) (text : List ℕ) (n : ℕ) → text ≡ take n (banner ++ []) → Follows [] [] held → IsPart [] text
+    at_banner held text n is follows = record {
+      whole = banner ++ [];
+      count = n;
+      written = inl (record { front = []; more = []; frames = []; later = held.ready; rest = held.rest; body = []; last = at_start; is = refl; whole = follows; answers = (refl, refl); begins = refl });
+      cut = is;
+    }
 
-pub cut_in_banner : (held : Held) (a b : Option (List ℕ)) (n : ℕ) → Follows [] [] held → Appends a b (take n banner) → IsCutBehind [] [] a b
-cut_in_banner held a b n follows puts = (
+pub part_in_banner : (held : Held) (a b : Option (List ℕ)) (n : ℕ) → Follows [] [] held → Appends a b (take n banner) → IsPartBehind [] [] a b
+part_in_banner held a b n follows puts = (
   take n banner,
   puts,
   record {
-    front = [];
-    more = [];
     whole = banner ++ [];
     count = n;
-    begins = refl;
-    written = inl ([], held.ready, held.rest, [], at_start, follows, (refl, refl), refl);
+    written = inl (record { front = []; more = []; frames = []; later = held.ready; rest = held.rest; body = []; last = at_start; is = refl; whole = follows; answers = (refl, refl); begins = refl });
     cut = ap (take n) (sym (append-nil banner));
   },
 )
@@ -253,19 +241,15 @@ at_begin s ready rest stop follows met hub fed = record {
   met = subst (λ stop. IsStop stop s.framer.rest) stop met;
   fed = fed;
   within = omega arith;
+  octets = λ i. omega arith;
 }
-
--- a stop breaks the input off
-pub cut_broken : (s : Stop) (input before : List ℕ) (held held' : Option (List ℕ)) → IsCutBehind input before held held' → IsBrokenOff (end_of s) input before held held'
-cut_broken stop.Output input before held held' is = is
-cut_broken stop.NoMemory input before held held' is = is
 
 -- the session after more was fed, and answered
 pub fed_more : (s t : Session) (mid : Held) (fed : Result Unit FrameFault) (fault : Option FrameFault) (input piece before text : List ℕ) → IsAt s None input before → IsMet fed fault
     → OnOk fed ((mid.stop ≡ None) × NoFault mid.rest) → IfErr fed (λ e. e ≢ frame_fault.NoMemory → (mid.stop ≡ Some e) × HasFault mid.rest e)
     → t.framer.ready ≡ [] → t.framer.rest ≡ mid.rest → t.framer.stop ≡ mid.stop → t.fed ≡ s.fed + length piece → s.fed + length piece ≤ most_input
-    → IsAnswered (input ++ piece) (before ++ text) t.framer.rest t.hub → IsAt t fault (input ++ piece) (before ++ text)
-fed_more s t mid fed fault input piece before text is met ok err ready rest stop count few answered =
+    → IsBytes piece → IsAnswered (input ++ piece) [] (before ++ text) t.framer.rest t.hub → IsAt t fault (input ++ piece) (before ++ text)
+fed_more s t mid fed fault input piece before text is met ok err ready rest stop count few octets answered =
     let stopped = met_stop mid fed fault met ok err in
     let same = is.fed in
     record {
@@ -275,6 +259,7 @@ fed_more s t mid fed fault input piece before text is met ok err ready rest stop
       met = subst (IsStop fault) (sym rest) stopped.1;
       fed = rw (length-append input piece) (omega arith);
       within = rw (length-append input piece) (omega arith);
+      octets = bytes-append input piece is.octets octets;
     }
 
 -- what a framer holds that was fed more, while all before was answered
@@ -286,10 +271,8 @@ fed_behind s mid fed fault input piece before is met ok err feeds =
     behind s.framer mid s.hub input piece before is.ready (feeds is.stopped (met_stop mid fed fault met ok err).2) is.answered
 
 -- nothing more is written, though more came
-pub cut_unfed : (held : Option (List ℕ)) (s : Session) (input more before : List ℕ) → IsAt s None input before → IsCutBehind (input ++ more) before held held
-cut_unfed held s input more before is =
-    let here = cut_here held input before s.framer.rest s.hub is.answered in
-    (here.0, here.1, cut_more input more (before ++ here.0) here.2)
+pub part_unread : (held : Option (List ℕ)) (s : Session) (input more before : List ℕ) → IsAt s None input before → IsPartBehind (input ++ more) before held held
+part_unread held s input more before is = ([], appends_nothing held, part_unfed input more (before ++ []) s.framer.rest s.hub (subst (λ t. IsAnswered input [] t s.framer.rest s.hub) (sym (append-nil before)) is.answered))
 
 -- ---- the first bytes of the input
 
@@ -300,9 +283,6 @@ take_most input piece room within is =
     let front = ap (λ n. take n (input ++ piece)) sum ∙ take-append-add input piece (most_input - length input) in
     front ∙ ap (λ t. input ++ t) (sym (ap (λ n. take n piece) is ∙ take_min (most_input - length input) piece))
 
-pub parts_of : (input piece : List ℕ) (room : ℕ) → (input ++ take room piece) ++ drop room piece ≡ input ++ piece
-parts_of input piece room = append_assoc input (take room piece) (drop room piece) ∙ ap (λ t. input ++ t) (take-append-drop room piece)
-
 -- a piece of which nothing is left was fed whole
 pub whole_piece : (piece : List ℕ) (room : ℕ) → drop room piece ≡ [] → take room piece ≡ piece
 whole_piece piece room none = sym (append-nil (take room piece)) ∙ (ap (λ t. take room piece ++ t) (sym none) ∙ take-append-drop room piece)
@@ -312,43 +292,22 @@ pub too_much : (input piece : List ℕ) (room : ℕ) → room ≡ min (most_inpu
 too_much input piece room is some = rw (length-append input piece) (omega arith)
 
 -- what a fault ended is served, behind what was written before
-pub broken_serves : (end : StdioEnd) (taken input more before text : List ℕ) (a b c : Option (List ℕ)) → take most_input taken ≡ input → input ++ more ≡ taken → Appends a b text
-    → IsBrokenOff end input (before ++ text) b c → IsServedBehind end taken before a c
-broken_serves (end.BadAt offset) taken input more before text a b c front whole puts is = (
-  text ++ is.0,
-  appends_then a b c text is.0 puts is.2,
-  (
-    is.1,
-    subst (λ t. IsStdioOut t (finish.Bad is.1) offset (before ++ (text ++ is.0))) (sym front)
-        (subst (IsStdioOut input (finish.Bad is.1) offset) (append_assoc before text is.0) is.3),
-  ),
+pub broken_serves : (offset : ℕ) (fault : FrameFault) (taken input before text more : List ℕ) (a b c : Option (List ℕ)) → take most_input taken ≡ input → Appends a b text
+    → Appends b c more → IsStdioOut input [] (finish.Bad fault) offset ((before ++ text) ++ more) → IsServedBehind (end.BadAt offset) taken before a c
+broken_serves offset fault taken input before text more a b c front puts then is = (
+  text ++ more,
+  appends_then a b c text more puts then,
+  (fault, rw (front, ← append_assoc before text more) is),
 )
-broken_serves end.OutputFault taken input more before text a b c front whole puts is = (
-  text ++ is.0,
-  appends_then a b c text is.0 puts is.1,
-  subst (λ t. IsCutOff t (before ++ (text ++ is.0))) whole
-      (cut_more input more (before ++ (text ++ is.0)) (subst (IsCutOff input) (append_assoc before text is.0) is.2)),
-)
-broken_serves end.NoMemory taken input more before text a b c front whole puts is = (
-  text ++ is.0,
-  appends_then a b c text is.0 puts is.1,
-  subst (λ t. IsCutOff t (before ++ (text ++ is.0))) whole
-      (cut_more input more (before ++ (text ++ is.0)) (subst (IsCutOff input) (append_assoc before text is.0) is.2)),
-)
-broken_serves end.Clean taken input more before text a b c front whole puts is = absurd is
-broken_serves (end.InsideAt offset) taken input more before text a b c front whole puts is = absurd is
-broken_serves end.TooMuch taken input more before text a b c front whole puts is = absurd is
-broken_serves end.InputFault taken input more before text a b c front whole puts is = absurd is
-broken_serves end.SaltFault taken input more before text a b c front whole puts is = absurd is
 
--- a stop while a front of the input was fed
-pub stopped_serves : (s : Stop) (taken input more before : List ℕ) (held held' : Option (List ℕ)) → input ++ more ≡ taken → IsCutBehind input before held held' → IsServedBehind (end_of s) taken before held held'
-stopped_serves s taken input more before held held' whole is =
-    cut_serves s taken before held held' (is.0, is.1, subst (λ t. IsCutOff t (before ++ is.0)) whole (cut_more input more (before ++ is.0) is.2))
+-- so is what stopped at a fault
+pub broken_part : (taken input before text : List ℕ) (a b c : Option (List ℕ)) → take most_input taken ≡ input → Appends a b text → IsPartBehind input (before ++ text) b c → IsPartBehind (take most_input taken) before a c
+broken_part taken input before text a b c front puts is =
+    (text ++ is.0, appends_then a b c text is.0 puts is.1, rw (front, ← append_assoc before text is.0) is.2)
 
 -- too much came
-pub much_serves : (s : Session) (taken input before text : List ℕ) → take most_input taken ≡ input → most_input < length taken → IsAt s None input (before ++ text) → Serves end.TooMuch taken (before ++ text)
-much_serves s taken input before text front more is = (more, subst (λ t. IsUnended t (before ++ text)) (sym front) (s.framer.rest, s.hub, is.answered, is.met))
+pub much_serves : (s : Session) (taken input before text : List ℕ) → take most_input taken ≡ input → most_input < length taken → IsAt s None input (before ++ text) → Serves end.TooMuch taken [] (before ++ text)
+much_serves s taken input before text front more is = (more, subst (λ t. IsUnended t [] (before ++ text)) (sym front) (s.framer.rest, s.hub, is.answered, is.met))
 
 -- ---- the end between two frames, and inside one
 

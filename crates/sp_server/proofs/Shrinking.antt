@@ -131,25 +131,37 @@ pub worked_less : (m : Machine) (c : ConnNo) (r : ReqNo) → is_done (reply_to m
 worked_less m c r done = played_less (λ x. length x.calls) is_done m (event.Work c r) m.halted refl
     (at_less (λ x. length x.calls) is_done m reply.Nothing (λ journal x. work_step journal x r) (place_of m.connections c) refl (λ x holds. work_less m.journal x (place_of_call x r) holds)) done
 
-perform_no_more : (journal : List Entry) (x : Connection) (place : ℕ) (t : OpenCall) (next : Option Entry) → slice_get x.calls place ≡ Some t
-    → length (perform_step journal x place t next).connection.calls ≤ length x.calls
-perform_no_more journal x place t None at = omega arith
-perform_no_more journal x place t (Some e) at = let k = one_gone x.calls place t at in omega arith
+perform_no_more : (weight : List OpenCall → ℕ) → ((calls : List OpenCall) (i : ℕ) → weight (remove calls i) ≤ weight calls) → (journal : List Entry) (x : Connection) (place : ℕ) (t : OpenCall) (next : Option Entry)
+    → weight (perform_step journal x place t next).connection.calls ≤ weight x.calls
+perform_no_more weight fewer journal x place t None = omega arith
+perform_no_more weight fewer journal x place t (Some e) = fewer x.calls place
 
-call_no_more : (journal : List Entry) (x : Connection) (place : ℕ) (found : Option OpenCall) (process : Option Pid) → slice_get x.calls place ≡ found
-    → length (work_call journal x place found process).connection.calls ≤ length x.calls
-call_no_more journal x place (Some t) (Some pid) at = perform_no_more journal x place t (next_entry journal pid (Request x.no t.number) (op.Sys t.call) nothing_read) at
-call_no_more journal x place (Some t) None at = omega arith
-call_no_more journal x place None process at = omega arith
+call_no_more : (weight : List OpenCall → ℕ) → ((calls : List OpenCall) (i : ℕ) → weight (remove calls i) ≤ weight calls) → (journal : List Entry) (x : Connection) (place : ℕ) (found : Option OpenCall) (process : Option Pid)
+    → weight (work_call journal x place found process).connection.calls ≤ weight x.calls
+call_no_more weight fewer journal x place (Some t) (Some pid) = perform_no_more weight fewer journal x place t (next_entry journal pid (Request x.no t.number) (op.Sys t.call) nothing_read)
+call_no_more weight fewer journal x place (Some t) None = omega arith
+call_no_more weight fewer journal x place None process = omega arith
 
-work_no_more : (journal : List Entry) (x : Connection) (place : Option ℕ) → length (work_at journal x place).connection.calls ≤ length x.calls
-work_no_more journal x None = omega arith
-work_no_more journal x (Some place) = call_no_more journal x place (slice_get x.calls place) (process_in x.condition) refl
+work_no_more : (weight : List OpenCall → ℕ) → ((calls : List OpenCall) (i : ℕ) → weight (remove calls i) ≤ weight calls) → (journal : List Entry) (x : Connection) (place : Option ℕ)
+    → weight (work_at journal x place).connection.calls ≤ weight x.calls
+work_no_more weight fewer journal x None = omega arith
+work_no_more weight fewer journal x (Some place) = call_no_more weight fewer journal x place (slice_get x.calls place) (process_in x.condition)
+
+-- work leaves no more open calls, by whatever weight of them
+pub worked_by_weight : (weight : List OpenCall → ℕ) → ((calls : List OpenCall) (i : ℕ) → weight (remove calls i) ≤ weight calls) → (m : Machine) (c : ConnNo) (r : ReqNo)
+    → sum_by (λ x. weight x.calls) (after m (event.Work c r)).connections ≤ sum_by (λ x. weight x.calls) m.connections
+worked_by_weight weight fewer m c r = played_no_more (λ x. weight x.calls) m (event.Work c r) m.halted
+    (at_no_more (λ x. weight x.calls) m reply.Nothing (λ journal x. work_step journal x r) (place_of m.connections c) (λ x. work_no_more weight fewer m.journal x (place_of_call x r)))
+
+remove_no_more : (calls : List OpenCall) (i : ℕ) → length (remove calls i) ≤ length calls
+remove_no_more [] zero = omega arith
+remove_no_more [] (suc i) = omega arith
+remove_no_more (t ∷ calls) zero = omega arith
+remove_no_more (t ∷ calls) (suc i) = let rest = remove_no_more calls i in omega arith
 
 -- work leaves no more calls open
 pub worked_no_more : (m : Machine) (c : ConnNo) (r : ReqNo) → open_total (after m (event.Work c r)) ≤ open_total m
-worked_no_more m c r = played_no_more (λ x. length x.calls) m (event.Work c r) m.halted
-    (at_no_more (λ x. length x.calls) m reply.Nothing (λ journal x. work_step journal x r) (place_of m.connections c) (λ x. work_no_more m.journal x (place_of_call x r)))
+worked_no_more m c r = worked_by_weight length remove_no_more m c r
 
 -- a round leaves no more calls open
 pub round_no_more : (m : Machine) (c : ConnNo) (numbers : List ReqNo) → open_total (worked m c numbers) ≤ open_total m

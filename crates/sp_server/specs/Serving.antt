@@ -9,6 +9,7 @@ use Rattle.sp_hub.specs.declared.event.Event.TheVariants.{Work, Take}
 use Rattle.sp_hub.specs.declared.event.Reply.{Reply}
 use Rattle.sp_hub.specs.declared.event.Reply.TheVariants.{Done, Out}
 use Rattle.sp_hub.specs.Machine.{Machine, played}
+use Rattle.sp_hub.specs.Run.{Exchange}
 use Rattle.sp_hub.specs.Task.{IsLowest, open_calls}
 
 -- what the server answers to an event
@@ -63,3 +64,15 @@ HandsOut m c (f ∷ frames) m' = (reply_to m (Take c) ≡ Out f) × HandsOut (af
 abbrev pub HandsOutOne : Machine → ConnNo → List ℕ → Bool → Machine → List ℕ → Type 0
 HandsOutOne m c text true m' text' = (f : Frame) × (reply_to m (Take c) ≡ Out f) × (m' ≡ after m (Take c)) × (text' ≡ text ++ spelling f)
 HandsOutOne m c text false m' text' = (is_out (reply_to m (Take c)) ≡ false) × (m' ≡ after m (Take c)) × (text' ≡ text)
+
+-- ---- runs
+
+-- the frame that Take gave, where it was a Take that gave one
+abbrev pub taken_frame : Event → Reply → List Frame
+taken_frame (Take c) (Out f) = f ∷ []
+taken_frame _ _ = []
+
+-- the frames that a run hands out
+abbrev pub handed_out : List Exchange → List Frame
+handed_out [] = []
+handed_out (exchange ∷ exchanges) = taken_frame exchange.event exchange.reply ++ handed_out exchanges

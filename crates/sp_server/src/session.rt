@@ -1,12 +1,13 @@
 //! A server and its one connection, over which bytes come in pieces.
-ghost use Rattle.std.specs.Prelude.{◌≡◌, ◌≢◌, ◌≤◌, ◌+◌, ◌++◌, ℕ, [], List, false, length, IfOk, OnOk, OnErr, IfSome, IfNone, None, Some};
+ghost use Rattle.std.specs.Prelude.{◌≡◌, ◌≢◌, ◌≤◌, ◌+◌, ◌++◌, ℕ, [], List, false, true, length, take, IfOk, OnOk, OnErr, IfSome, IfNone, None, Some};
 ghost use Rattle.std.specs.List.{flat_map};
 ghost use Rattle.std.specs.Io.KnownBytes.{Appends};
 ghost use Rattle.sp_frames.specs.declared.frame.Frame.{Frame};
+ghost use Rattle.sp_frames.specs.Banner.{banner};
 ghost use Rattle.sp_frames.specs.Grammar.{spelling};
 ghost use Rattle.sp_server.specs.Serving.{HandsOut};
-ghost use Rattle.sp_server.specs.Stdio.{connection, banner, most_input, AnswersFrame, IsAnswered, EndsAs, IsStdioOut, is_read};
-ghost use Rattle.sp_server.specs.Session.{HasStopCause, HasEndCause, IsBehind, IsAt, IsMet, IsQueueFront, IsAnswerFront, IsCutBehind, IsServedBehind, IsBrokenOff};
+ghost use Rattle.sp_server.specs.Stdio.{connection, most_input, AnswersFrame, IsAnswered, EndsAs, IsStdioOut, is_read, is_decided};
+ghost use Rattle.sp_server.specs.Session.{HasStopCause, IsBehind, IsAt, IsMet, IsQueueFront, IsAnswerFront, IsPartBehind, IsServedBehind};
 
 use crate::serving::{hand_out, work_all};
 use crate::stdio::StdioEnd;
@@ -89,7 +90,7 @@ fn put_queued<O: Sink>(alloc: Global, hub: &mut Hub, sink: &mut O) -> Result<(),
 /// A frame comes: it happens to the server, its open calls are worked, and what is queued then is written.
 fn answer<O: Sink>(alloc: Global, hub: &mut Hub, frame: Frame, sink: &mut O) -> Result<(), Stop>
     requires { O.is_done sink.old ≡ false }
-    ensures ok { OnOk result ((text : List ℕ) × AnswersFrame hub.old frame text hub.new × Appends (O.held sink.old) (O.held sink.new) text) }
+    ensures ok { OnOk result ((text : List ℕ) × AnswersFrame hub.old frame 0 text hub.new × Appends (O.held sink.old) (O.held sink.new) text) }
     ensures err { OnErr result ((text : List ℕ) × Appends (O.held sink.old) (O.held sink.new) text × IsAnswerFront hub.old frame text) }
     ensures cause { HasStopCause (O.faults sink.old) (O.faults sink.new) result }
     ensures open { O.is_done sink.new ≡ false }
@@ -108,8 +109,8 @@ fn answer_ready<O: Sink>(
 ) -> Result<(), Stop>
     requires { O.is_done sink.old ≡ false }
     ensures ok { OnOk result ((input before : List ℕ) → IsBehind framer.old hub.old input before
-        → (text : List ℕ) × Appends (O.held sink.old) (O.held sink.new) text × IsAnswered input (before ++ text) framer.new.rest hub.new) }
-    ensures err { OnErr result ((input before : List ℕ) → IsBehind framer.old hub.old input before → IsCutBehind input before (O.held sink.old) (O.held sink.new)) }
+        → (text : List ℕ) × Appends (O.held sink.old) (O.held sink.new) text × IsAnswered input [] (before ++ text) framer.new.rest hub.new) }
+    ensures err { OnErr result ((input before : List ℕ) → IsBehind framer.old hub.old input before → IsPartBehind input before (O.held sink.old) (O.held sink.new)) }
     ensures ready { OnOk result (framer.new.ready ≡ []) }
     ensures rest { OnOk result (framer.new.rest ≡ framer.old.rest) }
     ensures stop { OnOk result (framer.new.stop ≡ framer.old.stop) }
@@ -137,7 +138,7 @@ impl Session {
         requires { O.is_done sink.old ≡ false }
         ensures ok { IfOk result (λ session. IsAt session None [] banner) }
         ensures banner { OnOk result (Appends (O.held sink.old) (O.held sink.new) banner) }
-        ensures err { OnErr result (IsCutBehind [] [] (O.held sink.old) (O.held sink.new)) }
+        ensures err { OnErr result (IsPartBehind [] [] (O.held sink.old) (O.held sink.new)) }
         ensures cause { HasStopCause (O.faults sink.old) (O.faults sink.new) result }
         ensures open { O.is_done sink.new ≡ false }
     {
@@ -164,10 +165,10 @@ impl Session {
     /// The input ends: that happens to the server, and what is queued then is written.
     fn close<O: Sink>(&mut self, how: Finish, sink: &mut O) -> Result<(), Stop>
         requires { O.is_done sink.old ≡ false }
-        ensures ok { OnOk result ((input before rest : List ℕ) (offset : ℕ) → IsAnswered input before rest self.old.hub → EndsAs how rest → offset + length rest ≡ length input
-            → (text : List ℕ) × Appends (O.held sink.old) (O.held sink.new) text × IsStdioOut input how offset (before ++ text)) }
-        ensures err { OnErr result ((input before rest : List ℕ) (offset : ℕ) → IsAnswered input before rest self.old.hub → EndsAs how rest → offset + length rest ≡ length input
-            → IsCutBehind input before (O.held sink.old) (O.held sink.new)) }
+        ensures ok { OnOk result ((input before rest : List ℕ) (offset : ℕ) → IsAnswered input [] before rest self.old.hub → EndsAs how rest → offset + length rest ≡ length input
+            → (text : List ℕ) × Appends (O.held sink.old) (O.held sink.new) text × IsStdioOut input [] how offset (before ++ text)) }
+        ensures err { OnErr result ((input before rest : List ℕ) (offset : ℕ) → IsAnswered input [] before rest self.old.hub → EndsAs how rest → offset + length rest ≡ length input
+            → IsPartBehind input before (O.held sink.old) (O.held sink.new)) }
         ensures cause { HasStopCause (O.faults sink.old) (O.faults sink.new) result }
         ensures open { O.is_done sink.new ≡ false }
     {
@@ -175,20 +176,21 @@ impl Session {
         put_queued(self.alloc, &mut self.hub, sink)
     }
 
-    /// The input is no frame from here on.
-    fn break_off<O: Sink>(&mut self, fault: FrameFault, sink: &mut O) -> StdioEnd
+    /// The input is no frame from here on; gives the offset of the first byte that is none.
+    fn break_off<O: Sink>(&mut self, fault: FrameFault, sink: &mut O) -> Result<u64, Stop>
         requires open { O.is_done sink.old ≡ false }
         requires at { (input : List ℕ) × (before : List ℕ) × IsAt self.old (Some fault) input before }
-        ensures ends { (input before : List ℕ) → IsAt self.old (Some fault) input before → IsBrokenOff result input before (O.held sink.old) (O.held sink.new) }
-        ensures cause { HasEndCause (O.faults sink.old) (O.faults sink.new) result }
-        ensures unread { is_read result ≡ false }
+        ensures ok { IfOk result (λ offset. (input before : List ℕ) → IsAt self.old (Some fault) input before
+            → (text : List ℕ) × Appends (O.held sink.old) (O.held sink.new) text
+            × IsStdioOut input [] (Finish.Bad fault) offset (before ++ text)) }
+        ensures err { OnErr result ((input before : List ℕ) → IsAt self.old (Some fault) input before
+            → IsPartBehind input before (O.held sink.old) (O.held sink.new)) }
+        ensures cause { HasStopCause (O.faults sink.old) (O.faults sink.new) result }
         ensures open { O.is_done sink.new ≡ false }
     {
         let offset = self.offset();
-        match self.close(Finish::Bad(fault), sink) {
-            Ok(()) => StdioEnd::BadAt(offset),
-            Err(stop) => stop.into(),
-        }
+        self.close(Finish::Bad(fault), sink)?;
+        Ok(offset)
     }
 
     /// Bytes of the input come, and what they complete is answered; the fault that stands behind it, if one does.
@@ -197,7 +199,7 @@ impl Session {
         requires few { self.old.fed + length bytes.now ≤ most_input }
         ensures ok { IfOk result (λ fault. (input before : List ℕ) → IsAt self.old None input before
             → (text : List ℕ) × Appends (O.held sink.old) (O.held sink.new) text × IsAt self.new fault (input ++ bytes.now) (before ++ text)) }
-        ensures err { OnErr result ((input before : List ℕ) → IsAt self.old None input before → IsCutBehind (input ++ bytes.now) before (O.held sink.old) (O.held sink.new)) }
+        ensures err { OnErr result ((input before : List ℕ) → IsAt self.old None input before → IsPartBehind (input ++ bytes.now) before (O.held sink.old) (O.held sink.new)) }
         ensures cause { HasStopCause (O.faults sink.old) (O.faults sink.new) result }
         ensures open { O.is_done sink.new ≡ false }
     {
@@ -207,48 +209,53 @@ impl Session {
         Ok(fault)
     }
 
-    /// A piece of the input comes, and what it completes is answered; the end, if it brings one about.
-    pub fn receive<O: Sink>(&mut self, piece: &[u8], sink: &mut O) -> Option<StdioEnd>
+    /// A piece of the input comes, and what it completes is answered; gives the end, if the piece brings one about.
+    pub fn receive<O: Sink>(&mut self, piece: &[u8], sink: &mut O) -> Result<Option<StdioEnd>, Stop>
         requires open { O.is_done sink.old ≡ false }
         requires at { (input : List ℕ) × (before : List ℕ) × IsAt self.old None input before }
-        ensures goes_on { IfNone result ((input before : List ℕ) → IsAt self.old None input before
-            → (text : List ℕ) × Appends (O.held sink.old) (O.held sink.new) text × IsAt self.new None (input ++ piece.now) (before ++ text)) }
-        ensures ends { IfSome result (λ end. (input before : List ℕ) → IsAt self.old None input before
-            → IsServedBehind end (input ++ piece.now) before (O.held sink.old) (O.held sink.new)) }
-        ensures cause { IfSome result (HasEndCause (O.faults sink.old) (O.faults sink.new)) }
-        ensures unread { IfSome result (λ end. is_read end ≡ false) }
-        ensures later { O.faults sink.old ≤ O.faults sink.new }
+        ensures goes_on { IfOk result (λ end. IfNone end ((input before : List ℕ) → IsAt self.old None input before
+            → (text : List ℕ) × Appends (O.held sink.old) (O.held sink.new) text
+            × IsAt self.new None (input ++ piece.now) (before ++ text))) }
+        ensures ends { IfOk result (λ end. IfSome end (λ end. (input before : List ℕ) → IsAt self.old None input before
+            → IsServedBehind end (input ++ piece.now) before (O.held sink.old) (O.held sink.new))) }
+        ensures unread { IfOk result (λ end. IfSome end (λ end. is_read end ≡ false)) }
+        ensures outside { IfOk result (λ end. IfSome end (λ end. is_decided end ≡ true)) }
+        ensures err { OnErr result ((input before : List ℕ) → IsAt self.old None input before
+            → IsPartBehind (take most_input (input ++ piece.now)) before (O.held sink.old) (O.held sink.new)) }
+        ensures cause { HasStopCause (O.faults sink.old) (O.faults sink.new) result }
         ensures open { O.is_done sink.new ≡ false }
     {
         let room = (MOST_INPUT - self.fed).min(piece.len() as u64) as usize;
         let (inside, beyond) = piece.split_at(room);
-        match self.feed(inside, sink) {
-            Err(stop) => Some(stop.into()),
-            Ok(Some(fault)) => Some(self.break_off(fault, sink)),
-            Ok(None) if beyond.is_empty() => None,
-            Ok(None) => Some(StdioEnd::TooMuch),
+        match self.feed(inside, sink)? {
+            Some(fault) => {
+                let offset = self.break_off(fault, sink)?;
+                Ok(Some(StdioEnd::BadAt(offset)))
+            }
+            None if beyond.is_empty() => Ok(None),
+            None => Ok(Some(StdioEnd::TooMuch)),
         }
     }
 
     /// The input ended behind what was fed.
-    pub fn finish<O: Sink>(&mut self, sink: &mut O) -> StdioEnd
+    pub fn finish<O: Sink>(&mut self, sink: &mut O) -> Result<StdioEnd, Stop>
         requires open { O.is_done sink.old ≡ false }
         requires at { (input : List ℕ) × (before : List ℕ) × IsAt self.old None input before }
-        ensures ends { (input before : List ℕ) → IsAt self.old None input before → IsServedBehind result input before (O.held sink.old) (O.held sink.new) }
-        ensures cause { HasEndCause (O.faults sink.old) (O.faults sink.new) result }
+        ensures ok { IfOk result (λ end. (input before : List ℕ) → IsAt self.old None input before
+            → IsServedBehind end input before (O.held sink.old) (O.held sink.new)) }
+        ensures outside { IfOk result (λ end. is_decided end ≡ true) }
+        ensures err { OnErr result ((input before : List ℕ) → IsAt self.old None input before
+            → IsPartBehind input before (O.held sink.old) (O.held sink.new)) }
+        ensures cause { HasStopCause (O.faults sink.old) (O.faults sink.new) result }
         ensures open { O.is_done sink.new ≡ false }
     {
-        let offset = self.offset();
         if self.framer.inside() {
-            match self.close(Finish::Inside, sink) {
-                Ok(()) => StdioEnd::InsideAt(offset),
-                Err(stop) => stop.into(),
-            }
+            let offset = self.offset();
+            self.close(Finish::Inside, sink)?;
+            Ok(StdioEnd::InsideAt(offset))
         } else {
-            match self.close(Finish::Clean, sink) {
-                Ok(()) => StdioEnd::Clean,
-                Err(stop) => stop.into(),
-            }
+            self.close(Finish::Clean, sink)?;
+            Ok(StdioEnd::Clean)
         }
     }
 }

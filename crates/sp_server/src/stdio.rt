@@ -1,12 +1,16 @@
 //! One connection over a source and a sink.
-ghost use Rattle.std.specs.Prelude.{◌≡◌, ◌≢◌, false, true};
+ghost use Rattle.std.specs.Prelude.{◌≡◌, ℕ, List, Option, false, true};
 ghost use Rattle.sp_io.specs.Causes.{Rose};
 ghost use Rattle.sp_server.specs.declared.stdio.StdioEnd.TheVariants as end;
+ghost use Rattle.sp_server.specs.Session.{outcome};
 ghost use Rattle.sp_server.specs.Stdio.{IsServed, is_read};
 
 use crate::session::{Session, Stop};
 use sp_io::{IoFault, Salt, Sink, Source};
 use std::alloc::Global;
+
+/// The most bytes that are taken of the source at once.
+const PIECE: u32 = 65_536;
 
 /// How the service of one connection over standard input and output ended.
 #[derive(Clone, Copy, Debug, PartialEq, Eq)]
@@ -42,6 +46,35 @@ impl From<Stop> for StdioEnd {
     }
 }
 
+/// Serves one connection, whose frames take no salt.
+fn serve<I: Source, O: Sink>(alloc: Global, source: &mut I, sink: &mut O) -> Result<StdioEnd, Stop>
+    requires source { I.is_done source.old ≡ false }
+    requires sink { O.is_done sink.old ≡ false }
+    ensures serves { (drawn : Option (List ℕ))
+        → IsServed (record { left = I.left source.old; passed = I.passed source.old; held = O.held sink.old; drawn = drawn })
+        (record { left = I.left source.new; passed = I.passed source.new; held = O.held sink.new; drawn = drawn }) (outcome result) }
+    ensures ended { is_read (outcome result) ≡ true → I.ended source.new ≡ true }
+    ensures input { outcome result ≡ end.InputFault → Rose (I.faults source.old) (I.faults source.new) }
+    ensures output { outcome result ≡ end.OutputFault → Rose (O.faults sink.old) (O.faults sink.new) }
+    ensures source { I.is_done source.new ≡ false }
+    ensures sink { O.is_done sink.new ≡ false }
+{
+    let mut session = Session::begin(alloc, sink)?;
+    loop {
+        let piece = match source.take(alloc, PIECE) {
+            Ok(piece) => piece,
+            Err(IoFault::Failed) => return Ok(StdioEnd::InputFault),
+            Err(IoFault::NoMemory) => return Err(Stop::NoMemory),
+        };
+        if piece.is_empty() {
+            return session.finish(sink);
+        }
+        if let Some(end) = session.receive(piece.slice(), sink)? {
+            return Ok(end);
+        }
+    }
+}
+
 /// Serves one connection: the source gives its frames, and the sink takes the banner and then what a server of its own answers.
 ///
 /// What a frame is answered with is written before the source is read again. Of the input at most 1 GiB is looked at. The first
@@ -57,32 +90,22 @@ pub fn serve_stdio<I: Source, O: Sink, S: Salt>(
     requires source { I.is_done source.old ≡ false }
     requires sink { O.is_done sink.old ≡ false }
 
-    // what was taken and written, and which end it is
-    ensures serves { IsServed (I.left source.old) (I.left source.new) (I.passed source.old) (I.passed source.new) (O.held sink.old) (O.held sink.new) result }
+    // what was taken, drawn and written, and which end it is
+    ensures serves { IsServed
+        (record { left = I.left source.old; passed = I.passed source.old; held = O.held sink.old; drawn = S.drawn salt.old })
+        (record { left = I.left source.new; passed = I.passed source.new; held = O.held sink.new; drawn = S.drawn salt.new }) result }
     ensures ended { is_read result ≡ true → I.ended source.new ≡ true }
     ensures input { result ≡ end.InputFault → Rose (I.faults source.old) (I.faults source.new) }
     ensures output { result ≡ end.OutputFault → Rose (O.faults sink.old) (O.faults sink.new) }
 
     // what stays
     ensures salt { salt.new ≡ salt.old }
-    ensures open { (I.is_done source.new ≡ false) × (O.is_done sink.new ≡ false) }
+    ensures source { I.is_done source.new ≡ false }
+    ensures sink { O.is_done sink.new ≡ false }
 {
     let _ = salt;
-    let mut session = match Session::begin(alloc, sink) {
-        Ok(session) => session,
-        Err(stop) => return stop.into(),
-    };
-    loop {
-        let piece = match source.take(alloc, 65536) {
-            Ok(piece) => piece,
-            Err(IoFault::Failed) => return StdioEnd::InputFault,
-            Err(IoFault::NoMemory) => return StdioEnd::NoMemory,
-        };
-        if piece.is_empty() {
-            return session.finish(sink);
-        }
-        if let Some(end) = session.receive(piece.slice(), sink) {
-            return end;
-        }
+    match serve(alloc, source, sink) {
+        Ok(end) => end,
+        Err(stop) => stop.into(),
     }
 }

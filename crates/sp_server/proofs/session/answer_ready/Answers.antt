@@ -1,8 +1,8 @@
-use Rattle.std.proofs.Common.{◌++◌, ◌∙◌, sym, subst, append_assoc, arith}
-use Rattle.sp_server.specs.Stdio.{IsAnswered, IsCutOff}
-use Rattle.sp_server.specs.Session.{IsBehind}
+use Rattle.std.proofs.Common.{[], ◌++◌, ◌∙◌, sym, subst, append_assoc, arith}
+use Rattle.sp_server.specs.Stdio.{IsAnswered}
+use Rattle.sp_server.specs.Session.{IsBehind, IsPart}
 use Rattle.sp_io.proofs.Known.{appends_then}
-use Rattle.sp_server.proofs.SessionLaws.{one_behind, all_behind, cut_answer, always_err}
+use Rattle.sp_server.proofs.SessionLaws.{one_behind, all_behind, part_answer, always_err}
 use Rattle.sp_server.proofs.session.answer_ready.Goals as goal
 
 pub loop-frame-preserved : goal.loop-frame-preserved
@@ -33,8 +33,8 @@ returns-in_err-answer-clause-err g c =
     let t = c.loop-frame.invariant.so input before behind in (
       t.0 ++ e.0,
       appends_then (held c.args.sink.now) (held c.loop-frame.sink) (held c.answer.new.sink) t.0 e.0 t.1 e.1,
-      subst (IsCutOff input) (append_assoc before t.0 e.0)
-          (cut_answer c.loop-frame.framer c.next.new.self c.loop-frame.hub input (before ++ t.0) e.0 c.in-Some.frame c.in-Some.ensures.follows e.2 t.2),
+      subst (IsPart input) (append_assoc before t.0 e.0)
+          (part_answer c.loop-frame.framer c.next.new.self c.loop-frame.hub input (before ++ t.0) e.0 c.in-Some.frame c.in-Some.ensures.follows e.2 t.2),
     ))
 
 pub returns-clause-ok : goal.returns-clause-ok
@@ -42,6 +42,6 @@ returns-clause-ok g c = λ input before behind.
     let t = c.loop-frame.invariant.so input before behind in (
       t.0,
       t.1,
-      subst (λ rest. IsAnswered input (before ++ t.0) rest c.loop-frame.hub) (sym c.in_default.ensures.rest)
+      subst (λ rest. IsAnswered input [] (before ++ t.0) rest c.loop-frame.hub) (sym c.in_default.ensures.rest)
           (all_behind c.loop-frame.framer c.loop-frame.hub input (before ++ t.0) c.in_default.ensures.next t.2),
     )

@@ -1,23 +1,22 @@
 use Rattle.std.proofs.Common.{refl, sym, ap, subst, ◌∙◌}
 use Rattle.sp_frames.specs.Framing.{IsStop}
-use Rattle.sp_hub.specs.Machine.{played}
 use Rattle.sp_hub.specs.declared.event.Event.TheVariants as event
 use Rattle.sp_server.specs.declared.session.Session.{Session}
 use Rattle.sp_server.specs.Serving.{after}
 use Rattle.sp_server.specs.Stdio.{connection}
 use Rattle.sp_server.proofs.Rounds.{plays_is}
-use Rattle.sp_server.proofs.SessionLaws.{at_begin, cut_at_start, always_err}
+use Rattle.sp_server.proofs.SessionLaws.{at_begin, part_at_start, always_err}
 use Rattle.sp_server.proofs.session.Session.begin.Goals as goal
 
 pub returns-in_err-hub-clause-err : goal.returns-in_err-hub-clause-err
-returns-in_err-hub-clause-err g c = always_err c.from_residual.result (cut_at_start c.fresh-framer.result (g.O.Sink.held c.args.sink.now) c.fresh-framer.ensures.follows)
+returns-in_err-hub-clause-err g c = always_err c.from_residual.result (part_at_start c.fresh-framer.result (g.O.Sink.held c.args.sink.now) c.fresh-framer.ensures.follows)
 
 pub returns-in_err-happened-clause-err : goal.returns-in_err-happened-clause-err
-returns-in_err-happened-clause-err g c = always_err c.from_residual-in_err-happened.result (cut_at_start c.fresh-framer.result (g.O.Sink.held c.args.sink.now) c.fresh-framer.ensures.follows)
+returns-in_err-happened-clause-err g c = always_err c.from_residual-in_err-happened.result (part_at_start c.fresh-framer.result (g.O.Sink.held c.args.sink.now) c.fresh-framer.ensures.follows)
 
 pub returns-clause-ok : goal.returns-clause-ok
 returns-clause-ok g c =
     let f = c.fresh-framer.ensures in
     let s : Session = record { alloc = c.args.alloc; hub = c.opened.new.self; framer = c.fresh-framer.result; fed = 0 } in
-    let same = sym (plays_is (played c.in_ok-hub.hub (event.Opened connection)) c.in_ok-hub.hub c.opened.result c.opened.new.self c.opened.ensures.plays c.in_ok-happened.ensures).1 in
+    let same = sym (plays_is c.in_ok-hub.hub (event.Opened connection) c.opened.result c.opened.new.self c.opened.ensures.plays c.in_ok-happened.ensures).1 in
     at_begin s f.ready f.rest f.stop f.follows (subst (λ held. IsStop held.stop held.rest) c.framer.view_is c.framer.invariant.stopped) (same ∙ ap (λ m. after m (event.Opened connection)) c.in_ok-hub.ensures) refl

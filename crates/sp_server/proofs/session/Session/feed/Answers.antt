@@ -1,10 +1,10 @@
-use Rattle.std.proofs.Common.{◌+◌, refl, ◌++◌, length}
+use Rattle.std.proofs.Common.{◌+◌, refl, ◌++◌, length, arith}
 use Rattle.sp_server.specs.declared.session.Session.{Session}
-use Rattle.sp_server.proofs.SessionLaws.{fed_more, fed_behind, cut_unfed, always_err}
+use Rattle.sp_server.proofs.SessionLaws.{fed_more, fed_behind, part_unread, always_err}
 use Rattle.sp_server.proofs.session.Session.feed.Goals as goal
 
 pub returns-in_err-fault-clause-err : goal.returns-in_err-fault-clause-err
-returns-in_err-fault-clause-err g c = always_err c.from_residual.result (λ input before is. cut_unfed (g.O.Sink.held c.args.sink.now) c.args.self.now input c.args.bytes.now before is)
+returns-in_err-fault-clause-err g c = always_err c.from_residual.result (λ input before is. part_unread (g.O.Sink.held c.args.sink.now) c.args.self.now input c.args.bytes.now before is)
 
 pub returns-in_err-answer_ready-clause-err : goal.returns-in_err-answer_ready-clause-err
 returns-in_err-answer_ready-clause-err g c = always_err c.from_residual-in_err-answer_ready.result (λ input before is.
@@ -19,4 +19,4 @@ returns-clause-ok g c = λ input before is.
     let behind = fed_behind c.args.self.now c.feed.new.self c.feed.result c.in_ok-fault.fault input c.args.bytes.now before is c.in_ok-fault.ensures f.ok f.fault f.follows in
     let t = a.ok (input ++ c.args.bytes.now) before behind in
     let s : Session = record { alloc = c.args.self.now.alloc; hub = c.answer_ready.new.hub; framer = c.answer_ready.new.framer; fed = c.args.self.now.fed + length c.args.bytes.now } in
-    (t.0, t.1, fed_more c.args.self.now s c.feed.new.self c.feed.result c.in_ok-fault.fault input c.args.bytes.now before t.0 is c.in_ok-fault.ensures f.ok f.fault a.ready a.rest a.stop refl c.requires.few t.2)
+    (t.0, t.1, fed_more c.args.self.now s c.feed.new.self c.feed.result c.in_ok-fault.fault input c.args.bytes.now before t.0 is c.in_ok-fault.ensures f.ok f.fault a.ready a.rest a.stop refl c.requires.few (λ i. omega (arith, c.type_inv.bytes i)) t.2)
