@@ -8,6 +8,7 @@ use std::alloc::Global;
 use std::test::Fail;
 
 mod connection;
+mod order;
 
 /// Which calls of the input, the output and the messages fail, by their numbers from 0.
 #[derive(Clone, Copy)]

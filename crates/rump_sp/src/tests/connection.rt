@@ -11,17 +11,17 @@ use std::test::Fail;
 /// Bytes, as the parts that they are put together of.
 type Parts = &'static [&'static [u8]];
 
-const BANNER: &[u8] = b"RUMPSP-0.4\n";
+pub const BANNER: &[u8] = b"RUMPSP-0.4\n";
 
 /// The handshake of a guest named `a`, as request 1, and its response: process 2.
-const HANDSHAKE: &[u8] = b"\x19\0\0\0\0\0\0\0\x01\0\0\0\0\0\0\0\0\0\0\0\0\0\0\0a";
+pub const HANDSHAKE: &[u8] = b"\x19\0\0\0\0\0\0\0\x01\0\0\0\0\0\0\0\0\0\0\0\0\0\0\0a";
 
-const HELLO: &[u8] = b"\x1c\0\0\0\0\0\0\0\x01\0\0\0\0\0\0\0\x01\0\0\0\0\0\0\0\x02\0\0\0";
+pub const HELLO: &[u8] = b"\x1c\0\0\0\0\0\0\0\x01\0\0\0\0\0\0\0\x01\0\0\0\0\0\0\0\x02\0\0\0";
 
 /// System call 99, without words, as request 2, and its response: ENOSYS at place 1.
-const CALL: &[u8] = b"\x18\0\0\0\0\0\0\0\x02\0\0\0\0\0\0\0\0\0\x01\0\x63\0\0\0";
+pub const CALL: &[u8] = b"\x18\0\0\0\0\0\0\0\x02\0\0\0\0\0\0\0\0\0\x01\0\x63\0\0\0";
 
-const ENOSYS: &[u8] = b"\x30\0\0\0\0\0\0\0\x02\0\0\0\0\0\0\0\x01\0\x01\0\x4e\0\0\0\
+pub const ENOSYS: &[u8] = b"\x30\0\0\0\0\0\0\0\x02\0\0\0\0\0\0\0\x01\0\x01\0\x4e\0\0\0\
 \0\0\0\0\0\0\0\0\0\0\0\0\0\0\0\0\x01\0\0\0\0\0\0\0";
 
 /// A second handshake, as request 2, and its error: malformed.
