@@ -66,10 +66,3 @@ act s pid op (Given pieces) = act_op s pid op pieces
 abbrev pub has_step : Call → Bool
 has_step (call.Unknown num words) = true
 has_step call = nat_lt (call_number call) 21
-
--- the calls that the server takes by now
-abbrev pub is_built : Call → Bool
-is_built call.Getpid = true
-is_built (call.Close fd) = true
-is_built (call.Unknown num words) = true
-is_built _ = false

@@ -71,7 +71,7 @@ access_number Both = 2
 
 -- a bit of a word is set
 abbrev pub has_bit : ℕ → ℕ → Bool
-has_bit word bit = not (bit_and word bit == 0)
+has_bit word bit = bit_and word bit == bit
 
 -- the status of an open file: access, O_NONBLOCK 4, O_APPEND 8
 abbrev pub status_number : OpenFile → ℕ

@@ -7,6 +7,7 @@ mod journal;
 mod laws;
 mod name_map;
 mod node;
+mod open_flags;
 mod operation;
 mod outcome;
 mod path;
@@ -24,6 +25,7 @@ pub use laws::{
 };
 pub use name_map::{Name, NameMap};
 pub use node::{Access, Node, NodeKind, Object, OpenFile, Path, Row};
+pub use open_flags::OpenFlags;
 pub use operation::{Ins, Op, Pieces};
 pub use outcome::{OutPiece, Outcome, Outs};
 pub use plain::Plain;

@@ -5,6 +5,7 @@ ghost use Rattle.kern_model.specs.Journal.{CanAsk};
 ghost use Rattle.kern_model.specs.Plain.{step_of};
 
 use super::Plain;
+use crate::open_flags::OpenFlags;
 use crate::operation::{Ins, Op, Pieces};
 use crate::outcome::Outcome;
 use sp_base::{Call, Errno, NoMemory, Octets, Pid};
@@ -41,7 +42,7 @@ impl Plain {
         let second = second_piece(pieces.slice());
         Ok(Some(match call {
             Call::Getpid => self.getpid(pid),
-            Call::Open { flags, .. } => self.open(pid, first, *flags)?,
+            Call::Open { flags, .. } => self.open(pid, first, OpenFlags(*flags))?,
             Call::Close { fd } => self.close(pid, *fd),
             Call::Read { fd, out, len } => self.read(pid, *fd, *out, *len)?,
             Call::Write { fd, .. } => self.write(pid, *fd, first)?,

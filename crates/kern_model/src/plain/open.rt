@@ -3,39 +3,20 @@ ghost use Rattle.sp_base.specs.Table.{at};
 ghost use Rattle.kern_model.specs.State.{replace_bytes, with_bytes};
 ghost use Rattle.kern_model.specs.declared.node.Object.TheVariants as object;
 ghost use Rattle.kern_model.specs.Descriptors.{has_bit};
-ghost use Rattle.kern_model.specs.Files.{access_of, may_write, is_known, opened, open_found, open_missing, with_new_file, act_open};
+ghost use Rattle.kern_model.specs.Files.{may_write, opened, open_found, open_missing, with_new_file, act_open};
 
 use super::Plain;
-use super::descriptor_calls::has_bit;
 use crate::node::{Access, Node, NodeKind, Object, OpenFile, Path, Row};
+use crate::open_flags::OpenFlags;
 use crate::outcome::Outcome;
 use crate::walk::Walked;
 use sp_base::{Errno, NoMemory, Octets, Pid, table};
-
-/// The access that open's flags ask for, none for 3.
-fn access_of(flags: u64) -> Option<Access>
-    ensures { result ≡ access_of flags }
-{
-    match flags & 3 {
-        0 => Some(Access::Reading),
-        1 => Some(Access::Writing),
-        2 => Some(Access::Both),
-        _ => None,
-    }
-}
 
 /// Whether an access allows writing.
 pub(crate) fn may_write(access: Access) -> bool
     ensures { result ≡ may_write access }
 {
     !matches!(access, Access::Reading)
-}
-
-/// Whether no other bit is set than those that open knows.
-fn is_known(flags: u64) -> bool
-    ensures { result ≡ is_known flags }
-{
-    flags & 4_197_903 == flags
 }
 
 /// A node with other bytes, where there is a node.
@@ -56,14 +37,14 @@ fn rewritten(nodes: &[Option<Node>], n: u64, bytes: Octets) -> Option<Node>
 }
 
 /// The open file that open makes of a node.
-fn file_of(node: u64, flags: u64, access: Access) -> OpenFile
-    ensures { result ≡ record { object = object.Node node; access = access; append = has_bit flags 8; nonblock = has_bit flags 4; offset = 0 } }
+fn file_of(node: u64, flags: OpenFlags, access: Access) -> OpenFile
+    ensures { result ≡ record { object = object.Node node; access = access; append = has_bit flags.0 8; nonblock = has_bit flags.0 4; offset = 0 } }
 {
     OpenFile {
         object: Object::Node(node),
         access,
-        append: has_bit(flags, 8),
-        nonblock: has_bit(flags, 4),
+        append: flags.appends(),
+        nonblock: flags.never_waits(),
         offset: 0,
     }
 }
@@ -83,16 +64,16 @@ impl Plain {
         pid: Pid,
         fd: u64,
         node: u64,
-        flags: u64,
+        flags: OpenFlags,
         access: Access,
     ) -> Result<Outcome, NoMemory>
         requires { IsSome (at self.old.processes pid.0) }
-        ensures ok { IfOk result (λ outcome. opened self.old pid.0 fd node flags access ≡ Some (outcome, self.new)) }
+        ensures ok { IfOk result (λ outcome. opened self.old pid.0 fd node flags.0 access ≡ Some (outcome, self.new)) }
         ensures err { OnErr result (self.new ≡ self.old) }
     {
         let file = self.files.len() as u64;
         self.files.push(Some(file_of(node, flags, access)))?;
-        let close_on_exec = has_bit(flags, 4_194_304);
+        let close_on_exec = flags.closes_on_exec();
         self.set_row(
             pid,
             fd,
@@ -110,24 +91,24 @@ impl Plain {
         pid: Pid,
         fd: u64,
         node: u64,
-        flags: u64,
+        flags: OpenFlags,
         access: Access,
     ) -> Result<Outcome, NoMemory>
         requires { IsSome (at self.old.processes pid.0) }
-        ensures ok { IfOk result (λ outcome. open_found self.old pid.0 fd node flags access ≡ Some (outcome, self.new)) }
+        ensures ok { IfOk result (λ outcome. open_found self.old pid.0 fd node flags.0 access ≡ Some (outcome, self.new)) }
         ensures err { OnErr result (self.new ≡ self.old) }
     {
-        if has_bit(flags, 512) && has_bit(flags, 2048) {
+        if flags.creates() && flags.excludes() {
             return Ok(self.failed(Errno::Eexist));
         }
-        if self.is_directory(node) && (may_write(access) || has_bit(flags, 512)) {
+        if self.is_directory(node) && (may_write(access) || flags.creates()) {
             return Ok(self.failed(Errno::Eisdir));
         }
         if self.is_socket(node) {
             return Ok(self.failed(Errno::Eopnotsupp));
         }
         let outcome = self.opened(pid, fd, node, flags, access)?;
-        if has_bit(flags, 1024) {
+        if flags.truncates() {
             self.set_bytes(node, Octets::none(self.alloc));
         }
         Ok(outcome)
@@ -139,11 +120,11 @@ impl Plain {
         pid: Pid,
         fd: u64,
         path: Path,
-        flags: u64,
+        flags: OpenFlags,
         access: Access,
     ) -> Result<Outcome, NoMemory>
         requires { IsSome (at self.old.processes pid.0) }
-        ensures ok { IfOk result (λ outcome. opened (with_new_file self.old path) pid.0 fd (length self.old.nodes) flags access ≡ Some (outcome, self.new)) }
+        ensures ok { IfOk result (λ outcome. opened (with_new_file self.old path) pid.0 fd (length self.old.nodes) flags.0 access ≡ Some (outcome, self.new)) }
         ensures err { OnErr result (self.new ≡ self.old) }
     {
         self.files.reserve(1)?;
@@ -164,7 +145,7 @@ impl Plain {
             Ok(()) => {}
             Err(_) => unreachable!(),
         }
-        let close_on_exec = has_bit(flags, 4_194_304);
+        let close_on_exec = flags.closes_on_exec();
         self.set_row(
             pid,
             fd,
@@ -183,14 +164,14 @@ impl Plain {
         fd: u64,
         path: Path,
         slash: bool,
-        flags: u64,
+        flags: OpenFlags,
         access: Access,
     ) -> Result<Outcome, NoMemory>
         requires { IsSome (at self.old.processes pid.0) }
-        ensures ok { IfOk result (λ outcome. open_missing self.old pid.0 fd path slash flags access ≡ Some (outcome, self.new)) }
+        ensures ok { IfOk result (λ outcome. open_missing self.old pid.0 fd path slash flags.0 access ≡ Some (outcome, self.new)) }
         ensures err { OnErr result (self.new ≡ self.old) }
     {
-        if !has_bit(flags, 512) || slash {
+        if !flags.creates() || slash {
             return Ok(self.failed(Errno::Enoent));
         }
         if !self.has_room() {
@@ -200,15 +181,20 @@ impl Plain {
     }
 
     /// open. Want of memory leaves the state as it was.
-    pub(crate) fn open(&mut self, pid: Pid, path: &[u8], flags: u64) -> Result<Outcome, NoMemory>
+    pub(crate) fn open(
+        &mut self,
+        pid: Pid,
+        path: &[u8],
+        flags: OpenFlags,
+    ) -> Result<Outcome, NoMemory>
         requires { IsSome (at self.old.processes pid.0) }
-        ensures ok { IfOk result (λ outcome. act_open self.old pid.0 path.now flags ≡ Some (outcome, self.new)) }
+        ensures ok { IfOk result (λ outcome. act_open self.old pid.0 path.now flags.0 ≡ Some (outcome, self.new)) }
         ensures err { OnErr result (self.new ≡ self.old) }
     {
-        let Some(access) = access_of(flags) else {
+        let Some(access) = flags.access() else {
             return Ok(self.failed(Errno::Einval));
         };
-        if !is_known(flags) || has_bit(flags, 1024) && !may_write(access) {
+        if !flags.is_known() || flags.truncates() && !may_write(access) {
             return Ok(self.failed(Errno::Einval));
         }
         let Some(fd) = self.lowest_descriptor(pid, 0) else {
