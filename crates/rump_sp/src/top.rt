@@ -12,7 +12,6 @@ ghost use Rattle.rump_sp.specs.Words.{asked_of};
 
 use crate::bench::bench_main;
 use crate::failure::{Failure, fail};
-
 use crate::stdio::stdio_main;
 use crate::words::{Asked, read_words};
 use sp_base::NoMemory;
