@@ -30,10 +30,7 @@ pub struct Runner {
 fn play(hub: &mut Hub, event: Event) -> Result<Reply, NoMemory>
     ensures { IfOk result (λ reply. (reply, hub.new) ≡ played hub.old event) }
 {
-    match hub.play(event) {
-        Reply::NoMemory => Err(NoMemory),
-        reply => Ok(reply),
-    }
+    hub.play(event).or_no_memory()
 }
 
 impl Runner {

@@ -15,11 +15,7 @@ use std::alloc::Global;
 fn was_performed(reply: Reply) -> Result<bool, NoMemory>
     ensures { IfOk result (λ done. (reply ≢ Reply.NoMemory) × (done ≡ is_done reply)) }
 {
-    match reply {
-        Reply::Done => Ok(true),
-        Reply::NoMemory => Err(NoMemory),
-        _ => Ok(false),
-    }
+    Ok(matches!(reply.or_no_memory()?, Reply::Done))
 }
 
 /// Works every open call of a connection once, in rising number, and answers whether one was performed.

@@ -56,10 +56,8 @@ impl From<Failed> for Stop {
 fn happened(reply: Reply) -> Result<(), NoMemory>
     ensures { OnOk result (reply ≢ Reply.NoMemory) }
 {
-    match reply {
-        Reply::NoMemory => Err(NoMemory),
-        _ => Ok(()),
-    }
+    reply.or_no_memory()?;
+    Ok(())
 }
 
 /// The fault that a framer met; the error is want of memory.

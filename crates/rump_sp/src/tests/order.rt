@@ -102,14 +102,7 @@ fn answers_come_before_more_is_taken(rt: HostRuntime) -> Result<(), Fail> {
     let mut salt = MemSalt::of(alloc, 0, &[])?;
     let mut err = MemSink::of(alloc, &[])?;
     let words = ["stdio"];
-    let status = rump_main(
-        alloc,
-        &words,
-        &mut salt,
-        &mut peer,
-        &mut counter,
-        &mut err,
-    );
+    let status = rump_main(alloc, &words, &mut salt, &mut peer, &mut counter, &mut err);
     assert_eq!(rt; status, 0);
     assert_eq!(rt; peer.calls, 3);
     assert!(rt; peer.answered);
