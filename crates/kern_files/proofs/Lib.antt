@@ -1,0 +1,3 @@
+pub mod ListsLaws
+pub mod AgreeLaws
+pub mod FilesLaws
