@@ -1,7 +1,14 @@
 -- What the files are after names and nodes changed.
-use Rattle.std.specs.Prelude.{IsTrue, IsSome, is_some}
+use Rattle.std.specs.Prelude.{IsTrue, IsSome, is_some, Result, OnOk, OnErr}
+use Rattle.std.specs.declared.result.Result.TheVariants.{Ok, Err}
+use Rattle.std.specs.Result.{is_err}
 use Rattle.std.proofs.Common.{◌≡◌, ◌≢◌, cond, ℕ, ◌+◌, ◌-◌, ◌<◌, nat_lt, Bool, true, false, ◌||◌, length, get_or, Option, None, Some, refl, sym, ap, subst, ◌∙◌, arith}
 use Rattle.std.specs.FinMap.{get, remove}
+use Rattle.std.specs.Option.{option_map}
+use Rattle.std.proofs.lemmas.Bool.{false_from_ne_true, true≢false}
+use Rattle.std.proofs.lemmas.List.{get_or_past}
+use Rattle.sp_base.specs.declared.names.NodeNo.{NodeNo}
+use Rattle.kern_model.specs.declared.node.NodeKind.{NodeKind}
 use Rattle.kern_model.specs.Name.{Path, name_count, has_entries}
 use Rattle.kern_model.specs.State.{is_directory}
 use Rattle.kern_names.specs.Tree as tree_of
@@ -13,6 +20,7 @@ use Rattle.kern_nodes.specs.NodeTable.{NodeTable, with_links, with_node, links_o
 use Rattle.kern_files.specs.Files.{Files, state_of, without_unkept, without_name, moved}
 use Rattle.kern_files.specs.Parts.{Agree, files_of}
 use Rattle.kern_files.specs.Requests.{IsDirectory, MayReplace}
+use Rattle.kern_files.proofs.ListsLaws.{within_length}
 use Rattle.kern_files.proofs.AgreeLaws.{named, agree_unkept, agree_fewer, agree_moved}
 
 -- names and nodes that agree make up these files
@@ -101,3 +109,38 @@ replaced_by {tree} {table} {f} tree' table' old new replaced shows may names cou
       view = (λ i. files_of (names at i) (nodes i)) ∙ ap (λ g. moved g old new) (done.view ∙ ap (λ g. without_name g new replaced) shows.view);
       agree = subst (λ t. Agree tree' t) (sym nodes) (agree_moved fewer tree' (table_of.without_unkept (fewer_links table replaced) replaced) (ap (λ (t : Tree). t.directories) (names at)) counts done.agree);
     }
+
+-- ---- a name more, and a new node
+
+-- nothing is under a name of which no node is told
+pub free_by : (o : Option NodeNo) → is_some o ≡ false → option_map (λ (n : NodeNo). n.0) o ≡ None
+free_by None e = refl
+free_by (Some n) e = absurd (true≢false e)
+
+-- what is live by the files is so by the table
+pub live_in : {tree : Tree} {table : NodeTable} {f : Files} (node : ℕ) → Shows tree table f → IsSome (get_or f.nodes node None) → IsSome (get_or table.nodes node None)
+live_in node shows live = subst (λ g. IsSome (get_or g.nodes node None)) (sym shows.view) live
+
+-- the next number is no node's
+pub may_have : {tree : Tree} {table : NodeTable} (node : ℕ) (is_directory : Bool) → Agree tree table → node ≡ length table.nodes → names_may.MayHaveName tree node is_directory
+may_have {tree} {table} node is_directory a next =
+    let unused : name_count tree.names node ≡ 0 = sym (a.counted node) ∙ get_or_past table.links node 0 (omega (arith, a.long)) in
+    record {
+      plain = false_from_ne_true (has_directory tree node) (λ h. (let one = a.once node h in absurd (omega (arith, one, unused))));
+      unnamed = λ d path e. (let some = named tree.names path node e in absurd (omega (arith, some, unused)));
+    }
+
+-- a table that holds a node has a first number
+pub made_from : {tree : Tree} {table : NodeTable} {f : Files} (path : Path) (node : ℕ) (kind : NodeKind) (made : NodeTable) → Shows tree table f → get f.names path ≡ Some node → made ≡ table_of.with_new table kind → table_of.IsMadeFrom table made
+made_from {tree} {table} path node kind made shows there e =
+    let below = within_length table.nodes node (has_node path node shows there) in
+    record { kind = kind; made = e; first = omega (arith, below) }
+
+-- what an answer that is an error says, and one that is none
+pub failed : {V E A : Type 0} (r : Result V E) → OnErr r A → is_err r ≡ true → A
+failed (Ok v) a e = absurd (true≢false (sym e))
+failed (Err x) a e = a
+
+pub done : {V E A : Type 0} (r : Result V E) → OnOk r A → is_err r ≡ false → A
+done (Ok v) a e = a
+done (Err x) a e = absurd (true≢false e)
