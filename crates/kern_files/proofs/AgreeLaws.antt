@@ -1,10 +1,11 @@
 -- How names and nodes go on agreeing.
-use Rattle.std.specs.Prelude.{◌==◌, if◌then◌else◌, Result, OnOk, OnErr, IsTrue, IsSome, is_some}
+use Rattle.std.specs.Prelude.{filter, ◌==◌, if◌then◌else◌, Result, OnOk, OnErr, IsTrue, IsSome, is_some}
 use Rattle.std.proofs.Common.{◌≡◌, ◌≢◌, cond, ℕ, ◌+◌, ◌-◌, ◌<◌, ◌≤◌, nat_lt, Bool, true, false, ◌||◌, List, [], ◌∷◌, ◌++◌, length, get_or, set, Option, None, Some, refl, sym, ap, subst, ◌∙◌, ◌⊎◌, inl, inr, arith, ⊎_elim}
 use borrow.Author.Tests.{ltb-true, ltb-false}
 use Rattle.std.proofs.lemmas.Bool.{cases_eq, eqb-true, eq-eqb, false_from_ne_true, true≢false}
-use Rattle.std.proofs.lemmas.List.{get_or-set_same, get_or-set_other, get_or_push, get_or_past, length-set, length_push}
-use Rattle.std.specs.FinMap.{get, empty, insert, remove, entries, len-empty, len-entries}
+use Rattle.std.proofs.lemmas.List.{get_or-set_same, get_or-set_other, get_or_push, get_or_past, length-set, length_push, nil_from_length}
+use Rattle.std.specs.FinMap.{get, empty, insert, remove, entries, get-empty, len-empty, len-entries}
+use Rattle.std.specs.Ordering.{nat_cmp}
 use Rattle.std.specs.FinSet as set_of
 use Rattle.kern_model.specs.declared.node.Node.{Node}
 use Rattle.kern_model.specs.declared.node.NodeKind.{NodeKind}
@@ -215,3 +216,25 @@ agree_moved tree moved table same counts a =
       placed = λ n c d. has n ∙ a.placed n (omega (arith, counts n)) d;
       once = λ n h. counts n ∙ a.once n (sym (has n) ∙ h);
     }
+
+no_names : (n : ℕ) → name_count empty n ≡ 0
+no_names n = ap (λ (es : List (Path × ℕ)). length (filter (λ e. e.1 == n) es)) (nil_from_length (entries {R = path_cmp} empty) (sym (len-entries {R = path_cmp} empty) ∙ len-empty path_cmp ℕ))
+
+pub agree_fresh : Agree root_alone fresh_nodes
+agree_fresh =
+    let counts : (n : ℕ) → name_count (insert empty [] root) n ≡ one_if root n + name_count empty n = λ n. count_insert empty [] root n (get-empty path_cmp []) in
+    let top : name_count (insert empty [] root) root ≡ 1 = omega (arith, counts root, no_names root) in
+    let other : (n : ℕ) → n ≢ root → name_count (insert empty [] root) n ≡ 0 = λ n ne. omega (arith, counts n, no_names n, one_other root n (turned ne)) in
+    let number : (n : ℕ) → IsTrue (has_directory root_alone n) → n ≡ root = λ n h. ⊎_elim (λ e. e) (λ ne. absurd (true≢false (sym h ∙ beside_more set_of.empty root n ne ∙ set_of.contains-empty nat_cmp n))) (cases_eq n root) in
+    let only : (n : ℕ) → 0 < name_count (insert empty [] root) n → n ≡ root = λ n c. ⊎_elim (λ e. e) (λ ne. absurd (omega (arith, other n ne))) (cases_eq n root) in
+    record {
+      long = refl;
+      counted = λ n. ⊎_elim (λ e. ap (links_of fresh_nodes) e ∙ sym top ∙ ap (name_count (insert empty [] root)) (sym e)) (λ ne. no_links n ne ∙ sym (other n ne)) (cases_eq n root);
+      live = λ n c. ap (λ (m : ℕ). is_some (get_or fresh_nodes.nodes m None)) (only n c);
+      kind = λ n h. ap (is_directory (state_of fresh_nodes)) (number n h);
+      placed = λ n c d. ap (has_directory root_alone) (only n c) ∙ in_more set_of.empty root;
+      once = λ n h. ap (name_count (insert empty [] root)) (number n h) ∙ top;
+    }
+  where
+    no_links : (n : ℕ) → n ≢ root → links_of fresh_nodes n ≡ 0
+    no_links n ne = ⊎_elim (λ e. ap (links_of fresh_nodes) e) (λ other. get_or_past fresh_nodes.links n 0 (omega arith)) (cases_eq n 0)

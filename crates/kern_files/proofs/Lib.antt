@@ -1,3 +1,4 @@
 pub mod ListsLaws
 pub mod AgreeLaws
 pub mod FilesLaws
+pub mod WalkLaws
