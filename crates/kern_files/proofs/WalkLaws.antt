@@ -42,9 +42,9 @@ last_of tree table text path last a is = record {
 }
 
 reached_by : (tree : Tree) (table : NodeTable) (text : List ℕ) (way : Way) (walked : Walked) → Agree tree table → tree_walk.Reaches tree text way walked → Reaches (files_of tree table) text way walked
-reached_by tree table text way (Found node None) a r = (r.0, (r.1.0, (r.1.1.0, tt)))
-reached_by tree table text way (Found node (Some last)) a r = (r.0, (r.1.0, (r.1.1.0, last_of tree table text r.0 last a r.1.1.1)))
-reached_by tree table text way (Missing last) a r = (r.0, (r.1.0, (r.1.1.0, last_of tree table text r.0 last a r.1.1.1)))
+reached_by tree table text way (Found node None) a r = (r.0, r.1, r.2, tt)
+reached_by tree table text way (Found node (Some last)) a r = (r.0, r.1, r.2, last_of tree table text r.0 last a r.3)
+reached_by tree table text way (Missing last) a r = (r.0, r.1, r.2, last_of tree table text r.0 last a r.3)
 reached_by tree table text way (Fault error) a r = r
 
 -- what the directories reach, the files do
