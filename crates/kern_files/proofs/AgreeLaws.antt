@@ -26,10 +26,10 @@ pub named : (names : Names) (path : Path) (node : ℕ) → get names path ≡ So
 named names path node e = ltb-true 0 (name_count names node) (entry_laws.counted names path node e)
 
 -- one, where a node is the other
-abbrev one_if : ℕ → ℕ → ℕ
+abbrev pub one_if : ℕ → ℕ → ℕ
 one_if node other = if node == other then 1 else 0
 
-one_same : (m n : ℕ) → m ≡ n → one_if m n ≡ 1
+pub one_same : (m n : ℕ) → m ≡ n → one_if m n ≡ 1
 one_same m n e = ap (λ b. cond b 1 0) (eq-eqb m n e)
 
 one_other : (m n : ℕ) → m ≢ n → one_if m n ≡ 0

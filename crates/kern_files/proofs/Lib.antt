@@ -2,3 +2,4 @@ pub mod ListsLaws
 pub mod AgreeLaws
 pub mod FilesLaws
 pub mod WalkLaws
+pub mod RenameLaws

@@ -1,7 +1,7 @@
 ghost use Rattle.std.specs.Prelude.{◌≡◌, ◌↔◌, ◌≤◌, ◌<◌, ◌+◌, ◌-◌, ◌^◌, ℕ, ◌∷◌, length, not, false, Some, None, IfOk, OnOk, OnErr, IsSome, IsTrue};
 ghost use Rattle.std.specs.FinMap.{get};
 ghost use Rattle.sp_base.specs.Table.{at};
-ghost use Rattle.kern_model.specs.Name.{Path, is_same_path, name_count, has_entries};
+ghost use Rattle.kern_model.specs.Name.{Path, name_count, has_entries};
 ghost use Rattle.kern_model.specs.State.{State, kind_in, is_directory, directory_of, bytes_of};
 ghost use Rattle.kern_model.specs.Files.{bytes_from, fitting, link_count, resized};
 ghost use Rattle.kern_model.specs.Walk.{walk};
@@ -42,6 +42,13 @@ impl Model for Tree {
     ghost view = { λ t. files_of t.directories t.nodes };
 
     ghost invariant = { λ t. Agree t.directories t.nodes };
+}
+
+/// Whether two names in directories are one.
+fn is_one_name(from: NodeNo, old_name: &[u8], to: NodeNo, new_name: &[u8]) -> bool
+    ensures { IsTrue result ↔ (from.0 ≡ to.0) × (old_name.now ≡ new_name.now) }
+{
+    from == to && old_name == new_name
 }
 
 impl Tree {
@@ -247,16 +254,6 @@ impl Tree {
         self.nodes.drop_link(replaced);
     }
 
-    /// Whether two names of directories are one.
-    fn is_one_name(&self, from: NodeNo, old_name: &[u8], to: NodeNo, new_name: &[u8]) -> bool
-        requires within { IsDirectory self.now from.0 }
-        ensures { (path above : Path) → get self.now.names path ≡ Some from.0
-            → get self.now.names above ≡ Some to.0
-            → result ≡ is_same_path (old_name.now ∷ path) (new_name.now ∷ above) }
-    {
-        from == to && old_name == new_name
-    }
-
     /// Gives what is under one name another. One object under two names loses the old one; a name that is its own stays. ENOENT
     /// where nothing is under the old name, EINVAL of a place inside a directory itself, EISDIR, ENOTDIR and ENOTEMPTY of what
     /// can't be replaced. An error leaves all as it was.
@@ -284,11 +281,13 @@ impl Tree {
             if inside {
                 return Err(TreeFault::Errno(Errno::Einval));
             }
-            self.directories.rename(from, old_name, to, new_name)?;
+            if self.directories.rename(from, old_name, to, new_name).is_err() {
+                return Err(TreeFault::NoMemory);
+            }
             return Ok(());
         };
         if node == replaced {
-            if !self.is_one_name(from, old_name, to, new_name) {
+            if !is_one_name(from, old_name, to, new_name) {
                 self.drop_name(from, old_name, node);
             }
             return Ok(());
