@@ -117,14 +117,14 @@ agree_fewer tree table path node there a =
       long = length-set table.links node (links_of table node - 1) ∙ a.long;
       counted = λ n. ⊎_elim
           (λ e. ap (λ (m : ℕ). get_or (set table.links node (links_of table node - 1)) m 0) e ∙ get_or-set_same table.links node (links_of table node - 1) 0 inside
-            ∙ (let k : links_of table node - 1 ≡ name_count (remove tree.names path) node = omega (arith, a.counted node, own) in k) ∙ ap (name_count (remove tree.names path)) (sym e))
+          ∙ (let k : links_of table node - 1 ≡ name_count (remove tree.names path) node = omega (arith, a.counted node, own) in k) ∙ ap (name_count (remove tree.names path)) (sym e))
           (λ ne. get_or-set_other table.links node n (links_of table node - 1) 0 ne ∙ a.counted n ∙ sym (other n ne))
           (cases_eq n node);
       live = λ n c. a.live n (omega (arith, less n));
       kind = λ n h. a.kind n (was n h);
       placed = λ n c d. (let in_tree = a.placed n (omega (arith, less n)) d in ⊎_elim
           (λ e. (let one : name_count tree.names node ≡ 1 = sym (ap (name_count tree.names) e) ∙ a.once n in_tree in
-            let some : 0 < name_count (remove tree.names path) node = subst (λ m. 0 < name_count (remove tree.names path) m) e c in absurd (omega (arith, own, one, some))))
+          let some : 0 < name_count (remove tree.names path) node = subst (λ m. 0 < name_count (remove tree.names path) m) e c in absurd (omega (arith, own, one, some))))
           (λ ne. beside_fewer tree.directories node n ne ∙ in_tree)
           (cases_eq n node));
       once = λ n h. other n (apart n h) ∙ a.once n (was n h);
@@ -142,7 +142,7 @@ agree_more tree table path node free live plain a =
       long = length-set table.links node (links_of table node + 1) ∙ a.long;
       counted = λ n. ⊎_elim
           (λ e. ap (λ (m : ℕ). get_or (set table.links node (links_of table node + 1)) m 0) e ∙ get_or-set_same table.links node (links_of table node + 1) 0 inside
-            ∙ (let k : links_of table node + 1 ≡ name_count (insert tree.names path node) node = omega (arith, a.counted node, own) in k) ∙ ap (name_count (insert tree.names path node)) (sym e))
+          ∙ (let k : links_of table node + 1 ≡ name_count (insert tree.names path node) node = omega (arith, a.counted node, own) in k) ∙ ap (name_count (insert tree.names path node)) (sym e))
           (λ ne. get_or-set_other table.links node n (links_of table node + 1) 0 ne ∙ a.counted n ∙ sym (other n ne))
           (cases_eq n node);
       live = λ n c. ⊎_elim (λ e. subst (λ m. IsSome (get_or table.nodes m None)) (sym e) live) (λ ne. a.live n (omega (arith, other n ne))) (cases_eq n node);

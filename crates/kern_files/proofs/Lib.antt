@@ -3,3 +3,4 @@ pub mod AgreeLaws
 pub mod FilesLaws
 pub mod WalkLaws
 pub mod RenameLaws
+pub mod FreshLaws

@@ -24,8 +24,8 @@ pub kept_by : {X Y : Type 0} (f : X → Y) (xs : List X) (number : ℕ) (x d : X
 kept_by f xs number x d same n =
     ⊎_elim
     (λ here. ⊎_elim
-      (λ within. ap (λ m. f (get_or (set xs number x) m d)) here ∙ ap f (get_or-set_same xs number x d within) ∙ same ∙ ap (λ m. f (get_or xs m d)) (sym here))
-      (λ past. ap f (get_or_past (set xs number x) n d (omega (arith, length-set xs number x)) ∙ sym (get_or_past xs n d (omega arith))))
-      (cases_lt number (length xs)))
+    (λ within. ap (λ m. f (get_or (set xs number x) m d)) here ∙ ap f (get_or-set_same xs number x d within) ∙ same ∙ ap (λ m. f (get_or xs m d)) (sym here))
+    (λ past. ap f (get_or_past (set xs number x) n d (omega (arith, length-set xs number x)) ∙ sym (get_or_past xs n d (omega arith))))
+    (cases_lt number (length xs)))
     (λ apart. ap f (get_or-set_other xs number n x d apart))
     (cases_eq n number)

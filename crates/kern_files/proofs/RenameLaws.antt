@@ -32,11 +32,11 @@ one_path {tree} {table} node p q a d e f = elim (is_same_path q p) as (λ b. is_
   | true ↦ λ t. sym (path_from_test q p t)
   | false ↦ λ t.
       (let left : get (remove tree.names p) q ≡ Some node = get-remove paths_total tree.names p q ∙ ap (λ b. cond b None (get tree.names q)) t ∙ f in
-        let some = named (remove tree.names p) q node left in
-        let less = count_remove tree.names p node node e in
-        let own = one_same node node refl in
-        let one = a.once node d in
-        absurd (omega (arith, some, less, own, one)))
+      let some = named (remove tree.names p) q node left in
+      let less = count_remove tree.names p node node e in
+      let own = one_same node node refl in
+      let one = a.once node d in
+      absurd (omega (arith, some, less, own, one)))
 ] refl
 
 -- two names are one exactly where their paths are
@@ -57,13 +57,13 @@ one_name from to old_name new_name path above false shows directory at into iff 
 pub inside_is : (name : List ℕ) (above old : Path) → is_below (name ∷ above) old ≡ is_some (below above old)
 inside_is name above old = elim (is_same_path (name ∷ above) old) as (λ b. is_same_path (name ∷ above) old ≡ b → (is_some (cond b (Some []) (option_map (λ rest. name ∷ rest) (below above old))) && not b) ≡ is_some (below above old)) [
   | true ↦ λ t. (elim (below above old) as (λ o. below above old ≡ o → false ≡ is_some o) [
-        | None ↦ λ e. refl
-        | Some r ↦ λ e. absurd (not_longer above r name (below_is old above r e ∙ ap (λ (q : Path). r ++ q) (sym (path_from_test (name ∷ above) old t))))
-      ] refl)
+    | None ↦ λ e. refl
+    | Some r ↦ λ e. absurd (not_longer above r name (below_is old above r e ∙ ap (λ (q : Path). r ++ q) (sym (path_from_test (name ∷ above) old t))))
+  ] refl)
   | false ↦ λ t. (elim (below above old) as (λ o. (is_some (option_map (λ rest. name ∷ rest) o) && true) ≡ is_some o) [
-        | None ↦ refl
-        | Some r ↦ refl
-      ])
+    | None ↦ refl
+    | Some r ↦ refl
+  ])
 ] refl
 
 -- the error where nothing is at the new path, and where something is

@@ -2,6 +2,8 @@
 #![tactic(auto)]
 
 mod stat;
+#[cfg(test)]
+mod tests;
 mod tree;
 
 pub use kern_model::NodeKind;

@@ -75,7 +75,12 @@ impl Tree {
 
     /// Makes an empty node under a name of a directory, and answers its number. EEXIST where something is there, ENOSPC where
     /// there is no room for a node. An error leaves all as it was.
-    pub fn create(&mut self, directory: NodeNo, name: &[u8], kind: NodeKind) -> Result<NodeNo, TreeFault>
+    pub fn create(
+        &mut self,
+        directory: NodeNo,
+        name: &[u8],
+        kind: NodeKind,
+    ) -> Result<NodeNo, TreeFault>
         requires within { IsDirectory self.old directory.0 }
         ensures error { (path : Path) → get self.old.names path ≡ Some directory.0
             → error_in result ≡ create_error self.old (name.now ∷ path) }
@@ -92,7 +97,11 @@ impl Tree {
         }
         let node = self.nodes.make(self.alloc, kind)?;
         let is_directory = matches!(kind, NodeKind::Directory);
-        if self.directories.add(directory, name, node, is_directory).is_err() {
+        if self
+            .directories
+            .add(directory, name, node, is_directory)
+            .is_err()
+        {
             self.nodes.unmake();
             return Err(TreeFault::NoMemory);
         }
@@ -223,7 +232,10 @@ impl Tree {
         ensures { (path : Path) → get self.now.names path ≡ Some replaced.0
             → result ≡ replace_error self.now node.0 path replaced.0 }
     {
-        match (self.nodes.is_directory(node), self.nodes.is_directory(replaced)) {
+        match (
+            self.nodes.is_directory(node),
+            self.nodes.is_directory(replaced),
+        ) {
             (false, true) => Some(Errno::Eisdir),
             (true, false) => Some(Errno::Enotdir),
             (true, true) if !self.directories.is_empty(replaced) => Some(Errno::Enotempty),
@@ -248,7 +260,7 @@ impl Tree {
         ensures { (path above : Path) → get self.old.names path ≡ Some from.0
             → get self.old.names above ≡ Some to.0
             → self.new ≡ moved (without_name self.old (new_name.now ∷ above) replaced.0)
-                (old_name.now ∷ path) (new_name.now ∷ above) }
+            (old_name.now ∷ path) (new_name.now ∷ above) }
     {
         self.directories.replace(from, old_name, to, new_name);
         self.nodes.drop_link(replaced);
@@ -281,7 +293,11 @@ impl Tree {
             if inside {
                 return Err(TreeFault::Errno(Errno::Einval));
             }
-            if self.directories.rename(from, old_name, to, new_name).is_err() {
+            if self
+                .directories
+                .rename(from, old_name, to, new_name)
+                .is_err()
+            {
                 return Err(TreeFault::NoMemory);
             }
             return Ok(());

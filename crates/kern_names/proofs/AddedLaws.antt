@@ -36,7 +36,7 @@ module _ (edge after : Edges) (up parents : Parents) (tree : IsTree edge up) (di
     | inl h ↦ inr (
       (λ e. not_child q c (e ∙ sym h.0)),
       ap (λ o. step after o c) h.1 ∙ kept node c (λ k. apart_node k.0) ∙ tree.plain node c new_node
-      ∙ sym (ap (λ (p : Path). step edge (resolve edge p) c) h.0 ∙ ap (λ o. step edge o c) nothing_there),
+          ∙ sym (ap (λ (p : Path). step edge (resolve edge p) c) h.0 ∙ ap (λ o. step edge o c) nothing_there),
     )
     | inr h ↦ elim (resolve edge q) as (λ o. resolve edge q ≡ o → Added (c ∷ q)) [
       | None ↦ λ e. inr (

@@ -225,8 +225,10 @@ module _ (old : Directories) (is : IsTreeOf old) (now : Tree) (shows : ShowsOf o
       (ok : OnOk r (MovesName old new from old_name to new_name node)) (err : OnErr r (Keeps old new)) where
     pub rename_shown : Shown (edges_of new) (parents_of new)
     rename_shown = either_way r ok err
-        (λ moves. (moved now (old_name ∷ path) (new_name ∷ above),
-              moved_shows old is now shows from to old_name new_name within under path above at into node (child_stands (Some node) path at found) new (may path above at into) moves))
+        (λ moves. (
+          moved now (old_name ∷ path) (new_name ∷ above),
+          moved_shows old is now shows from to old_name new_name within under path above at into node (child_stands (Some node) path at found) new (may path above at into) moves,
+        ))
         (λ keeps. (now, kept_shows old new keeps now shows))
 
     pub rename_tree : IsTreeOf new
@@ -241,7 +243,7 @@ module _ (old : Directories) (is : IsTreeOf old) (now : Tree) (shows : ShowsOf o
     pub rename_counts : (u : Shown (edges_of new) (parents_of new)) (n : ℕ) → OnOk r (name_count u.0.names n ≡ name_count now.names n)
     rename_counts u n = on_ok r
         (λ moves. ap (λ (t : Tree). name_count t.names n) (seen new u _ (moved_shows old is now shows from to old_name new_name within under path above at into node (child_stands (Some node) path at found) new (may path above at into) moves))
-          ∙ moved_counts old is now shows from to old_name new_name within under path above at into node (child_stands (Some node) path at found) new (may path above at into) moves n) ok
+        ∙ moved_counts old is now shows from to old_name new_name within under path above at into node (child_stands (Some node) path at found) new (may path above at into) moves n) ok
 
     pub rename_err : (u : Shown (edges_of new) (parents_of new)) → OnErr r (u.0 ≡ now)
     rename_err u = on_err r (λ keeps. seen new u now (kept_shows old new keeps now shows)) err
@@ -276,8 +278,10 @@ module _ (old : Directories) (is : IsTreeOf old) (now : Tree) (shows : ShowsOf o
 
       module _ (new : Directories) (replaces : ReplacesName old new from old_name to new_name node replaced) where
         pub replace_shown : Shown (edges_of new) (parents_of new)
-        replace_shown = (moved (without_name now (new_name ∷ above) replaced) (old_name ∷ path) (new_name ∷ above),
-          replaced_shows old is now shows from to old_name new_name within under path above at into node there new (may path above at into) replaced taken replaces)
+        replace_shown = (
+          moved (without_name now (new_name ∷ above) replaced) (old_name ∷ path) (new_name ∷ above),
+          replaced_shows old is now shows from to old_name new_name within under path above at into node there new (may path above at into) replaced taken replaces,
+        )
 
         pub replace_tree : IsTreeOf new
         replace_tree = replaced_tree old is now shows from to old_name new_name within under path above at into node there new (may path above at into) replaced taken replaces
@@ -287,7 +291,7 @@ module _ (old : Directories) (is : IsTreeOf old) (now : Tree) (shows : ShowsOf o
         replace_is u p q n e f taken_by =
             let same : replaced ≡ n = same_node (other ∙ named old is now shows to new_name q f ∙ taken_by) in
             seen new u _ (subst (λ (m : ℕ). ShowsOf new (moved (without_name now (new_name ∷ q) m) (old_name ∷ p) (new_name ∷ q))) same
-                (replaced_shows old is now shows from to old_name new_name within under p q e f node (child_stands (Some node) p e found) new (may p q e f) replaced (taken_by ∙ ap (λ (m : ℕ). Some m) (sym same)) replaces))
+            (replaced_shows old is now shows from to old_name new_name within under p q e f node (child_stands (Some node) p e found) new (may p q e f) replaced (taken_by ∙ ap (λ (m : ℕ). Some m) (sym same)) replaces))
 
         pub replace_counts : (u : Shown (edges_of new) (parents_of new)) (q : Path) (m : ℕ) → get now.names q ≡ Some to → name_count u.0.names m ≡ name_count (remove now.names (new_name ∷ q)) m
         replace_counts u q m f =

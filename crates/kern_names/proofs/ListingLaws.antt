@@ -95,7 +95,7 @@ module _ {K : Type 0} (spelling : K → List ℕ) where
   replaced_in name node q [] h = absurd cc
   replaced_in name node q (e ∷ es) h =
       elim (is_eq (name_cmp name (spelling e.0))) as (λ b. is_eq (name_cmp name (spelling e.0)) ≡ b → IsSome (cond b (Some e.1) (lookup (λ k. is_eq (name_cmp name (spelling k))) es))
-          → find name_cmp q (spelled (cond b ((e.0, node) ∷ es) (e ∷ set_value (λ k. is_eq (name_cmp name (spelling k))) es node))) ≡ cond (eq_by_cmp name_cmp q name) (Some node) (find name_cmp q (spelled (e ∷ es)))) [
+      → find name_cmp q (spelled (cond b ((e.0, node) ∷ es) (e ∷ set_value (λ k. is_eq (name_cmp name (spelling k))) es node))) ≡ cond (eq_by_cmp name_cmp q name) (Some node) (find name_cmp q (spelled (e ∷ es)))) [
         | true ↦ λ t h. subst (λ (n : List ℕ). find name_cmp q (spelled ((e.0, node) ∷ es)) ≡ cond (eq_by_cmp name_cmp q n) (Some node) (find name_cmp q (spelled (e ∷ es)))) (sym (same_name name (spelling e.0) t))
             (shadowed (eq_by_cmp name_cmp q (spelling e.0)) (Some node) (Some e.1) _)
         | false ↦ λ t h. ap (cond (eq_by_cmp name_cmp q (spelling e.0)) (Some e.1)) (replaced_in name node q es h)

@@ -42,7 +42,7 @@ module _ (s : State) (path : Path) (parts : List (List ℕ)) (component : List �
       on [] ne = absurd (ne refl)
       on (next ∷ l) ne =
           ap (λ b. if b then walk_from s path (next ∷ l) slash else if is_up component then walk_from s (parent path) (next ∷ l) slash
-              else unless_fault (through s (get s.names (component ∷ path))) (walk_from s (component ∷ path) (next ∷ l) slash)) here
+          else unless_fault (through s (get s.names (component ∷ path))) (walk_from s (component ∷ path) (next ∷ l) slash)) here
           ∙ ap (λ b. if b then walk_from s (parent path) (next ∷ l) slash else unless_fault (through s (get s.names (component ∷ path))) (walk_from s (component ∷ path) (next ∷ l) slash)) up
           ∙ ap (λ o. unless_fault (through s o) (walk_from s (component ∷ path) (next ∷ l) slash)) there
           ∙ ap (λ b. unless_fault (if b then None else Some Enotdir) (walk_from s (component ∷ path) (next ∷ l) slash)) directory

@@ -19,8 +19,8 @@ returns-then-is_none t c s path has at =
     let part : List ℕ = slice_range text c.in-Some.start c.in-Some.end in
     let none : components (drop c.in-Some.end text) ≡ [] = grind (arith, common_steps) in
     subst (λ (w : Way). Reaches c.args.self.now text w c.walk_last.result)
-        (sym (at_last s path (components (drop c.args.from text)) part (components (drop c.in-Some.end text)) (ends_with_slash text) c.in-Some.ensures.some none))
-        (c.walk_last.ensures s path has at)
+    (sym (at_last s path (components (drop c.args.from text)) part (components (drop c.in-Some.end text)) (ends_with_slash text) c.in-Some.ensures.some none))
+    (c.walk_last.ensures s path has at)
 
 pub returns-then-is_here : goal.returns-then-is_here
 returns-then-is_here t c s path has at =
@@ -29,8 +29,8 @@ returns-then-is_here t c s path has at =
     let more : components (drop c.in-Some.end text) ≢ [] = λ e. grind (arith, common_steps, e) in
     let here : is_here part ≡ true = grind (arith, common_steps) in
     subst (λ (w : Way). Reaches c.args.self.now text w c.walk_from.result)
-        (sym (past_here s path (components (drop c.args.from text)) part (components (drop c.in-Some.end text)) (ends_with_slash text) c.in-Some.ensures.some more here))
-        (c.walk_from.ensures s path has at)
+    (sym (past_here s path (components (drop c.args.from text)) part (components (drop c.in-Some.end text)) (ends_with_slash text) c.in-Some.ensures.some more here))
+    (c.walk_from.ensures s path has at)
 
 pub returns-then-is_up : goal.returns-then-is_up
 returns-then-is_up t c s path has at =
@@ -40,8 +40,8 @@ returns-then-is_up t c s path has at =
     let here : is_here part ≡ false = grind (arith, common_steps) in
     let up : is_up part ≡ true = grind (arith, common_steps) in
     subst (λ (w : Way). Reaches c.args.self.now text w c.walk_from-then-is_up.result)
-        (sym (past_up s path (components (drop c.args.from text)) part (components (drop c.in-Some.end text)) (ends_with_slash text) c.in-Some.ensures.some more here up))
-        (c.walk_from-then-is_up.ensures s (parent path) has (c.parent.ensures.above path at))
+    (sym (past_up s path (components (drop c.args.from text)) part (components (drop c.in-Some.end text)) (ends_with_slash text) c.in-Some.ensures.some more here up))
+    (c.walk_from-then-is_up.ensures s (parent path) has (c.parent.ensures.above path at))
 
 pub returns : goal.returns
 returns t c s path has at =
@@ -53,6 +53,6 @@ returns t c s path has at =
     let there : get c.args.self.now.names (part ∷ path) ≡ Some c.in-Some-child.node.0 = c.child.ensures path at ∙ ap (λ o. option_map (λ (n : NodeNo). n.0) o) c.in-Some-child.is in
     let directory : has_directory c.args.self.now c.in-Some-child.node.0 ≡ true = sym c.is_directory.ensures ∙ c.if-not-is_directory.false in
     subst (λ (w : Way). Reaches c.args.self.now text w c.walk_from-2.result)
-        (sym (past_name s path (components (drop c.args.from text)) part (components (drop c.in-Some.end text)) (ends_with_slash text) c.in-Some.ensures.some c.in-Some-child.node.0 more here up
-            (ap (λ (names : Names). get names (part ∷ path)) has.names ∙ there) (has.directories (part ∷ path) c.in-Some-child.node.0 there ∙ directory)))
-        (c.walk_from-2.ensures s (part ∷ path) has there)
+    (sym (past_name s path (components (drop c.args.from text)) part (components (drop c.in-Some.end text)) (ends_with_slash text) c.in-Some.ensures.some c.in-Some-child.node.0 more here up
+    (ap (λ (names : Names). get names (part ∷ path)) has.names ∙ there) (has.directories (part ∷ path) c.in-Some-child.node.0 there ∙ directory)))
+    (c.walk_from-2.ensures s (part ∷ path) has there)

@@ -12,8 +12,10 @@ invariant_of-self-inside c =
     let path = (place old c.self.invariant now shows c.args.directory.0 c.requires.within).path in
     let at = stands old c.self.invariant now shows c.args.directory.0 c.requires.within in (
       either_way c.add.result c.add.ensures.ok c.add.ensures.err
-          (λ adds. (with_name now (c.args.name.now ∷ path) c.args.node.0 c.args.is_directory,
-                added_shows old c.self.invariant now shows c.args.directory.0 c.args.name.now c.requires.within c.args.node.0 c.args.is_directory path at (c.requires.free path at) c.requires.new c.add.new.directories adds))
+          (λ adds. (
+            with_name now (c.args.name.now ∷ path) c.args.node.0 c.args.is_directory,
+            added_shows old c.self.invariant now shows c.args.directory.0 c.args.name.now c.requires.within c.args.node.0 c.args.is_directory path at (c.requires.free path at) c.requires.new c.add.new.directories adds,
+          ))
           (λ keeps. (now, kept_shows old c.add.new.directories keeps now shows)),
       tt,
     )
@@ -36,7 +38,7 @@ returns-clause-ok c path at =
     let shows : ShowsOf old now = subst (λ (t : Tree). ShowsOf old t) c.self.view_is c.self.inside.shown.1 in
     on_ok c.add.result
     (λ adds. seen c.add.new.directories c.self-1.given.0 (with_name now (c.args.name.now ∷ path) c.args.node.0 c.args.is_directory)
-        (added_shows old c.self.invariant now shows c.args.directory.0 c.args.name.now c.requires.within c.args.node.0 c.args.is_directory path at (c.requires.free path at) c.requires.new c.add.new.directories adds))
+    (added_shows old c.self.invariant now shows c.args.directory.0 c.args.name.now c.requires.within c.args.node.0 c.args.is_directory path at (c.requires.free path at) c.requires.new c.add.new.directories adds))
     c.add.ensures.ok
 
 pub returns-clause-err : goal.returns-clause-err

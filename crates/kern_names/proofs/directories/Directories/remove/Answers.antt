@@ -24,8 +24,10 @@ invariant_of-self-inside c =
     let path = (place old c.self.invariant now shows c.args.directory.0 c.requires.within).path in
     let at = stands old c.self.invariant now shows c.args.directory.0 c.requires.within in
     let there : get now.names (c.args.name.now ∷ path) ≡ Some c.in-Some.node = sym (named old c.self.invariant now shows c.args.directory.0 c.args.name.now path at) ∙ sym c.in-Some.ensures in (
-      (without_name now (c.args.name.now ∷ path) c.in-Some.node,
-          removed_shows old c.self.invariant now shows c.args.directory.0 c.args.name.now c.requires.within path c.in-Some.node at there (c.requires.may path at) c.remove.new.directories c.remove.ensures),
+      (
+        without_name now (c.args.name.now ∷ path) c.in-Some.node,
+        removed_shows old c.self.invariant now shows c.args.directory.0 c.args.name.now c.requires.within path c.in-Some.node at there (c.requires.may path at) c.remove.new.directories c.remove.ensures,
+      ),
       tt,
     )
 
@@ -56,5 +58,5 @@ returns c path node at there =
     let shows : ShowsOf old now = subst (λ (t : Tree). ShowsOf old t) c.self.view_is c.self.inside.shown.1 in
     let same : c.in-Some.node ≡ node = same_node (c.in-Some.ensures ∙ named old c.self.invariant now shows c.args.directory.0 c.args.name.now path at ∙ there) in
     seen c.remove.new.directories c.self-1.given.0 _
-        (subst (λ (n : ℕ). ShowsOf c.remove.new.directories (without_name now (c.args.name.now ∷ path) n)) same
-        (removed_shows old c.self.invariant now shows c.args.directory.0 c.args.name.now c.requires.within path c.in-Some.node at (there ∙ ap (λ (n : ℕ). Some n) (sym same)) (c.requires.may path at) c.remove.new.directories c.remove.ensures))
+    (subst (λ (n : ℕ). ShowsOf c.remove.new.directories (without_name now (c.args.name.now ∷ path) n)) same
+    (removed_shows old c.self.invariant now shows c.args.directory.0 c.args.name.now c.requires.within path c.in-Some.node at (there ∙ ap (λ (n : ℕ). Some n) (sym same)) (c.requires.may path at) c.remove.new.directories c.remove.ensures))

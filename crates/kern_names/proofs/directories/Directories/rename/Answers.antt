@@ -39,7 +39,7 @@ unreachable-requires c =
     let at = stands old c.self.invariant now shows c.args.from.0 c.requires.within in
     let into = stands old c.self.invariant now shows c.args.to.0 c.requires.under in
     nothing _ (child_stands old c.self.invariant now shows c.args.from.0 c.args.to.0 c.args.old_name.now c.args.new_name.now c.requires.within c.requires.under None path at (sym c.in-None.is ∙ c.child.ensures))
-        (c.requires.may path above at into).there
+    (c.requires.may path above at into).there
 
 pub returns-clause-ok : goal.returns-clause-ok
 returns-clause-ok c path above at into =

@@ -35,9 +35,12 @@ replace-requires-clause-two c =
     c.in-Some.node c.in-Some-child.replaced c.in-Some.ensures c.in-Some-child.ensures
 
 pub invariant_of-self-inside : goal.invariant_of-self-inside
-invariant_of-self-inside c = (replace_shown c.self.inside.directories c.self.invariant c.args.self.now (shown_as c.self.inside.directories c.self.inside.shown c.args.self.now c.self.view_is)
-    c.args.from.0 c.args.to.0 c.args.old_name.now c.args.new_name.now c.requires.within c.requires.under c.requires.may
-    c.in-Some.node c.in-Some-child.replaced c.in-Some.ensures c.in-Some-child.ensures c.replace.new.directories c.replace.ensures, tt)
+invariant_of-self-inside c = (
+  replace_shown c.self.inside.directories c.self.invariant c.args.self.now (shown_as c.self.inside.directories c.self.inside.shown c.args.self.now c.self.view_is)
+      c.args.from.0 c.args.to.0 c.args.old_name.now c.args.new_name.now c.requires.within c.requires.under c.requires.may
+      c.in-Some.node c.in-Some-child.replaced c.in-Some.ensures c.in-Some-child.ensures c.replace.new.directories c.replace.ensures,
+  tt,
+)
 
 pub invariant_of-self : goal.invariant_of-self
 invariant_of-self c =
