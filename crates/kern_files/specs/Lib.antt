@@ -1,3 +1,4 @@
 pub mod Files
 pub mod Requests
 pub mod Reach
+pub mod Parts

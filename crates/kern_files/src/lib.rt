@@ -2,9 +2,9 @@
 #![tactic(auto)]
 
 mod stat;
-mod tree;
 #[cfg(test)]
 mod tests;
+mod tree;
 
 pub use kern_model::NodeKind;
 pub use kern_names::{Last, Walked};

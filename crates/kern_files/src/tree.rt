@@ -1,13 +1,13 @@
-ghost use Rattle.std.specs.Prelude.{◌≡◌, ◌↔◌, ◌≤◌, ◌<◌, ◌+◌, ◌-◌, ◌^◌, ℕ, ◌∷◌, length, not, Some, None, IfOk, OnOk, OnErr, IsSome, IsTrue};
+ghost use Rattle.std.specs.Prelude.{◌≡◌, ◌↔◌, ◌≤◌, ◌<◌, ◌+◌, ◌-◌, ◌^◌, ℕ, ◌∷◌, length, not, false, Some, None, IfOk, OnOk, OnErr, IsSome, IsTrue};
 ghost use Rattle.std.specs.FinMap.{get};
 ghost use Rattle.sp_base.specs.Table.{at};
-ghost use Rattle.kern_model.specs.Name.{Path, has_entries};
-ghost use Rattle.kern_model.specs.State.{State, kind_in, directory_of, bytes_of};
+ghost use Rattle.kern_model.specs.Name.{Path, name_count, has_entries};
+ghost use Rattle.kern_model.specs.State.{State, kind_in, is_directory, directory_of, bytes_of};
 ghost use Rattle.kern_model.specs.Files.{bytes_from, fitting, link_count, resized};
 ghost use Rattle.kern_model.specs.Walk.{walk};
 ghost use Rattle.kern_nodes.specs.TreeFault.{error_in};
-ghost use Rattle.kern_files.specs.Files.{fresh_files, state_of, holders_of, without_unkept, with_holders, with_new, with_name, without_name, with_bytes, renamed_to, written, write_error, cut_error, errno_in, create_error, link_error, unlink_error, rmdir_error, rename_error};
-ghost use Rattle.kern_files.specs.Requests.{IsDirectory};
+ghost use Rattle.kern_files.specs.Files.{fresh_files, state_of, holders_of, without_unkept, with_holders, with_new, with_name, without_name, moved, with_bytes, renamed_to, written, write_error, cut_error, errno_in, create_error, link_error, unlink_error, rmdir_error, replace_error, rename_error};
+ghost use Rattle.kern_files.specs.Requests.{IsDirectory, MayReplace};
 ghost use Rattle.kern_files.specs.Reach.{Reaches};
 
 use crate::stat::Stat;
@@ -17,6 +17,9 @@ use kern_nodes::{Nodes, TreeFault};
 use sp_base::{Errno, NoMemory, NodeNo, Octets};
 use std::alloc::Global;
 use std::marker::Model;
+
+/// The most names that a node has.
+const LINK_LIMIT: u32 = 32_767;
 
 /// The files of a kernel: the names of nodes in directories, and the nodes with their bytes. A node is there while it has a
 /// name or a holder.
@@ -39,6 +42,13 @@ impl Model for Tree {
     ghost view = { λ t. files_of t.directories t.nodes };
 
     ghost invariant = { λ t. Agree t.directories t.nodes };
+}
+
+/// Whether two names in directories are one.
+fn is_one_name(from: NodeNo, old_name: &[u8], to: NodeNo, new_name: &[u8]) -> bool
+    ensures { IsTrue result ↔ (from.0 ≡ to.0) × (old_name.now ≡ new_name.now) }
+{
+    from == to && old_name == new_name
 }
 
 impl Tree {
@@ -65,7 +75,12 @@ impl Tree {
 
     /// Makes an empty node under a name of a directory, and answers its number. EEXIST where something is there, ENOSPC where
     /// there is no room for a node. An error leaves all as it was.
-    pub fn create(&mut self, directory: NodeNo, name: &[u8], kind: NodeKind) -> Result<NodeNo, TreeFault>
+    pub fn create(
+        &mut self,
+        directory: NodeNo,
+        name: &[u8],
+        kind: NodeKind,
+    ) -> Result<NodeNo, TreeFault>
         requires within { IsDirectory self.old directory.0 }
         ensures error { (path : Path) → get self.old.names path ≡ Some directory.0
             → error_in result ≡ create_error self.old (name.now ∷ path) }
@@ -80,10 +95,17 @@ impl Tree {
         if !self.nodes.has_room() {
             return Err(TreeFault::Errno(Errno::Enospc));
         }
-        let node = self.nodes.next();
-        self.nodes.reserve()?;
-        self.directories.add(directory, name, node, matches!(kind, NodeKind::Directory))?;
-        Ok(self.nodes.make_reserved(kind))
+        let node = self.nodes.make(self.alloc, kind)?;
+        let is_directory = matches!(kind, NodeKind::Directory);
+        if self
+            .directories
+            .add(directory, name, node, is_directory)
+            .is_err()
+        {
+            self.nodes.unmake();
+            return Err(TreeFault::NoMemory);
+        }
+        Ok(node)
     }
 
     /// A copy of the bytes of a node from an offset on: at most so many, and at most 65,536. The only error is want of memory.
@@ -143,6 +165,21 @@ impl Tree {
         Ok(())
     }
 
+    /// Takes a name away, and its node where nothing else keeps it.
+    fn drop_name(&mut self, directory: NodeNo, name: &[u8], node: NodeNo)
+        requires within { IsDirectory self.old directory.0 }
+        requires there { (path : Path) → get self.old.names path ≡ Some directory.0
+            → get self.old.names (name.now ∷ path) ≡ Some node.0 }
+        requires empty { (path : Path) → get self.old.names path ≡ Some directory.0
+            → IsTrue (is_directory (state_of self.old) node.0)
+            → has_entries self.old.names (name.now ∷ path) ≡ false }
+        ensures { (path : Path) → get self.old.names path ≡ Some directory.0
+            → self.new ≡ without_name self.old (name.now ∷ path) node.0 }
+    {
+        self.directories.remove(directory, name);
+        self.nodes.drop_link(node);
+    }
+
     /// Takes a name away, and its node where nothing else keeps it. ENOENT where nothing is there, EPERM of a directory. An
     /// error leaves all as it was.
     pub fn unlink(&mut self, directory: NodeNo, name: &[u8]) -> Result<(), Errno>
@@ -160,8 +197,7 @@ impl Tree {
         if self.nodes.is_directory(node) {
             return Err(Errno::Eperm);
         }
-        self.directories.remove(directory, name);
-        self.nodes.drop_link(node);
+        self.drop_name(directory, name, node);
         Ok(())
     }
 
@@ -185,9 +221,49 @@ impl Tree {
         if !self.directories.is_empty(node) {
             return Err(Errno::Enotempty);
         }
-        self.directories.remove(directory, name);
-        self.nodes.drop_link(node);
+        self.drop_name(directory, name, node);
         Ok(())
+    }
+
+    /// Why a node can't take the place of another, which has a name.
+    fn replace_fault(&self, node: NodeNo, replaced: NodeNo) -> Option<Errno>
+        requires live { IsSome (at self.now.nodes node.0) }
+        requires named { 0 < name_count self.now.names replaced.0 }
+        ensures { (path : Path) → get self.now.names path ≡ Some replaced.0
+            → result ≡ replace_error self.now node.0 path replaced.0 }
+    {
+        match (
+            self.nodes.is_directory(node),
+            self.nodes.is_directory(replaced),
+        ) {
+            (false, true) => Some(Errno::Eisdir),
+            (true, false) => Some(Errno::Enotdir),
+            (true, true) if !self.directories.is_empty(replaced) => Some(Errno::Enotempty),
+            _ => None,
+        }
+    }
+
+    /// Gives what is under one name the name of another node, which is gone where nothing else keeps it.
+    fn replace_name(
+        &mut self,
+        from: NodeNo,
+        old_name: &[u8],
+        to: NodeNo,
+        new_name: &[u8],
+        replaced: NodeNo,
+    )
+        requires within { IsDirectory self.old from.0 }
+        requires under { IsDirectory self.old to.0 }
+        requires may { (path above : Path) → get self.old.names path ≡ Some from.0
+            → get self.old.names above ≡ Some to.0
+            → MayReplace self.old (old_name.now ∷ path) (new_name.now ∷ above) replaced.0 }
+        ensures { (path above : Path) → get self.old.names path ≡ Some from.0
+            → get self.old.names above ≡ Some to.0
+            → self.new ≡ moved (without_name self.old (new_name.now ∷ above) replaced.0)
+            (old_name.now ∷ path) (new_name.now ∷ above) }
+    {
+        self.directories.replace(from, old_name, to, new_name);
+        self.nodes.drop_link(replaced);
     }
 
     /// Gives what is under one name another. One object under two names loses the old one; a name that is its own stays. ENOENT
@@ -212,27 +288,33 @@ impl Tree {
         let Some(node) = self.directories.child(from, old_name) else {
             return Err(TreeFault::Errno(Errno::Enoent));
         };
-        let inside = self.nodes.is_directory(node) && self.directories.is_inside(to, node);
+        let inside = self.directories.is_inside(to, node);
         let Some(replaced) = self.directories.child(to, new_name) else {
             if inside {
                 return Err(TreeFault::Errno(Errno::Einval));
             }
-            self.directories.rename(from, old_name, to, new_name)?;
+            if self
+                .directories
+                .rename(from, old_name, to, new_name)
+                .is_err()
+            {
+                return Err(TreeFault::NoMemory);
+            }
             return Ok(());
         };
         if node == replaced {
-            if from != to || old_name != new_name {
-                self.directories.remove(from, old_name);
-                self.nodes.drop_link(node);
+            if !is_one_name(from, old_name, to, new_name) {
+                self.drop_name(from, old_name, node);
             }
             return Ok(());
         }
         if inside {
             return Err(TreeFault::Errno(Errno::Einval));
         }
-        self.replace_fault(node, replaced)?;
-        self.directories.replace(from, old_name, to, new_name);
-        self.nodes.drop_link(replaced);
+        if let Some(error) = self.replace_fault(node, replaced) {
+            return Err(TreeFault::Errno(error));
+        }
+        self.replace_name(from, old_name, to, new_name, replaced);
         Ok(())
     }
 

@@ -7,7 +7,7 @@ use Rattle.std.specs.FinMap.{get, remove}
 use Rattle.std.specs.FinSet as set
 use Rattle.std.specs.Prelude.{Result, OnOk, OnErr}
 use Rattle.sp_base.specs.declared.memory.NoMemory.{NoMemory}
-use Rattle.kern_model.specs.Name.{Path, below, is_same_path}
+use Rattle.kern_model.specs.Name.{Path, Names, name_count, below, is_same_path, renamed}
 use Rattle.kern_model.specs.Links.{is_below}
 use Rattle.kern_model.proofs.RenameLaws.{apart_by}
 use Rattle.kern_names.specs.Tree.{Tree, has_directory, without_name, moved}
@@ -16,7 +16,7 @@ use Rattle.kern_names.specs.Changes.{Keeps, MovesName, ReplacesName}
 use Rattle.kern_names.specs.Requests.{MayMove, MayReplace}
 use Rattle.kern_names.proofs.ShownLaws.{not_child, none_some, same_node, nothing}
 use Rattle.kern_names.proofs.RemovedLaws.{tree_removed, names_removed, others_left}
-use Rattle.kern_names.proofs.MovedLaws.{tree_moved, names_moved}
+use Rattle.kern_names.proofs.MovedLaws.{tree_moved, names_moved, names_counted}
 use Rattle.kern_names.proofs.InsideLaws.{Directories, ShowsOf, IsTreeOf, kept_tree, kept_shows, seen, either_way, on_ok, on_err, place, stands, is_up, named, bare, in_fewer, beside_fewer}
 
 -- a path that isn't below another is none below it
@@ -106,6 +106,11 @@ module _ (old : Directories) (is : IsTreeOf old) (now : Tree) (shows : ShowsOf o
       λ n. shows.1 n ∙ kind_stays up (parents_of new) node to moves.parents.others moves.parents.plain moves.parents.moved n,
     )
 
+    pub moved_counts : (n : ℕ) → name_count (moved now before after).names n ≡ name_count now.names n
+    moved_counts = names_counted edge (edges_of new) up (parents_of new) is from to node old_name new_name path above (leads path at) (leads above into)
+        (is_up old is now shows from within) (is_up old is now shows to under) has_name free outside moves.gone moves.come moves.kept
+        moves.parents.others moves.parents.plain moves.parents.moved now.names shows.0
+
   -- ---- to the place of another node
 
   module _ (may : MayReplace now before after) (replaced : ℕ) (taken : get now.names after ≡ Some replaced) (replaces : ReplacesName old new from old_name to new_name node replaced) where
@@ -191,6 +196,10 @@ module _ (old : Directories) (is : IsTreeOf old) (now : Tree) (shows : ShowsOf o
       λ n. directories_fewer n (cases_eq n replaced) ∙ kind_stays fewer_up (parents_of new) node to up_still plain_still moved_still n,
     )
 
+    pub replaced_counts : (n : ℕ) → name_count (moved (without_name now after replaced) before after).names n ≡ name_count (remove now.names after) n
+    replaced_counts = names_counted fewer (edges_of new) fewer_up (parents_of new) fewer_tree from to node old_name new_name path above at_still into_still within_still under_still
+        has_still (forget_here edge to new_name) outside_still replaces.gone replaces.come kept_still up_still plain_still moved_still (remove now.names after) fewer_names
+
 -- ---- a rename, from its answer
 
 module _ (old : Directories) (is : IsTreeOf old) (now : Tree) (shows : ShowsOf old now) (from to : ℕ) (old_name new_name : List ℕ)
@@ -231,6 +240,11 @@ module _ (old : Directories) (is : IsTreeOf old) (now : Tree) (shows : ShowsOf o
     rename_ok u p q e f = on_ok r
         (λ moves. seen new u _ (moved_shows old is now shows from to old_name new_name within under p q e f node (child_stands (Some node) p e found) new (may p q e f) moves)) ok
 
+    pub rename_counts : (u : Shown (edges_of new) (parents_of new)) (n : ℕ) → OnOk r (name_count u.0.names n ≡ name_count now.names n)
+    rename_counts u n = on_ok r
+        (λ moves. ap (λ (t : Tree). name_count t.names n) (seen new u _ (moved_shows old is now shows from to old_name new_name within under path above at into node (child_stands (Some node) path at found) new (may path above at into) moves))
+        ∙ moved_counts old is now shows from to old_name new_name within under path above at into node (child_stands (Some node) path at found) new (may path above at into) moves n) ok
+
     pub rename_err : (u : Shown (edges_of new) (parents_of new)) → OnErr r (u.0 ≡ now)
     rename_err u = on_err r (λ keeps. seen new u now (kept_shows old new keeps now shows)) err
 
@@ -249,6 +263,9 @@ module _ (old : Directories) (is : IsTreeOf old) (now : Tree) (shows : ShowsOf o
 
       taken : get now.names (new_name ∷ above) ≡ Some replaced
       taken = sym (named old is now shows to new_name above into) ∙ sym other
+
+      taken_at : (q : Path) → get now.names q ≡ Some to → get now.names (new_name ∷ q) ≡ Some replaced
+      taken_at q f = sym (named old is now shows to new_name q f) ∙ sym other
 
       pub two_nodes : node ≢ replaced
       two_nodes e = (may path above at into).two (there ∙ ap (λ (n : ℕ). Some n) e ∙ sym taken)
@@ -275,3 +292,8 @@ module _ (old : Directories) (is : IsTreeOf old) (now : Tree) (shows : ShowsOf o
             let same : replaced ≡ n = same_node (other ∙ named old is now shows to new_name q f ∙ taken_by) in
             seen new u _ (subst (λ (m : ℕ). ShowsOf new (moved (without_name now (new_name ∷ q) m) (old_name ∷ p) (new_name ∷ q))) same
             (replaced_shows old is now shows from to old_name new_name within under p q e f node (child_stands (Some node) p e found) new (may p q e f) replaced (taken_by ∙ ap (λ (m : ℕ). Some m) (sym same)) replaces))
+
+        pub replace_counts : (u : Shown (edges_of new) (parents_of new)) (q : Path) (m : ℕ) → get now.names q ≡ Some to → name_count u.0.names m ≡ name_count (remove now.names (new_name ∷ q)) m
+        replace_counts u q m f =
+            ap (λ (t : Tree). name_count t.names m) (seen new u _ (replaced_shows old is now shows from to old_name new_name within under path q at f node there new (may path q at f) replaced (taken_at q f) replaces))
+            ∙ replaced_counts old is now shows from to old_name new_name within under path q at f node there new (may path q at f) replaced (taken_at q f) replaces m

@@ -4,11 +4,12 @@ use Rattle.std.specs.Prelude.{IsSome}
 use Rattle.std.proofs.lemmas.Bool.{cases_eq}
 use Rattle.std.proofs.lemmas.List.{append_cancel_right}
 use Rattle.std.specs.FinMap.{get}
-use Rattle.kern_model.specs.Name.{Path, Names, renamed}
+use Rattle.kern_model.specs.Name.{Path, Names, name_count, renamed}
 use Rattle.kern_model.specs.State.{root}
 use Rattle.kern_model.proofs.BelowLaws.{get_elsewhere, get_old, get_new}
 use Rattle.kern_names.specs.Edges.{Edges, Parents, step, resolve, HasPath, IsTree}
-use Rattle.kern_names.proofs.ShownLaws.{below_cases, not_longer, none_below, none_some, same_node, nothing, apart}
+use Rattle.kern_names.proofs.CountLaws.{count_renamed}
+use Rattle.kern_names.proofs.ShownLaws.{below_cases, not_child, not_longer, none_below, none_some, same_node, nothing, apart}
 
 module _ (edge after : Edges) (up parents : Parents) (tree : IsTree edge up) (from to node : ℕ) (old_name new_name : List ℕ) (old_path new_path : Path)
     (at : resolve edge old_path ≡ Some from) (into : resolve edge new_path ≡ Some to) (within : IsSome (up from)) (under : IsSome (up to))
@@ -72,6 +73,10 @@ module _ (edge after : Edges) (up parents : Parents) (tree : IsTree edge up) (fr
 
   old_apart : (r : Path) → old ≢ r ++ new
   old_apart r e = none_some (sym (new_free r) ∙ ap (resolve edge) (sym e) ∙ stood)
+
+  -- each node has as many names as before
+  pub names_counted : (names : Names) → ((p : Path) → get names p ≡ resolve edge p) → (n : ℕ) → name_count (renamed names old new) n ≡ name_count names n
+  names_counted names same = count_renamed old new new_apart old_apart names (λ r. same (r ++ new) ∙ new_free r)
 
   -- the names after the rename are what stands under each path
   pub names_moved : (names : Names) → ((p : Path) → get names p ≡ resolve edge p) → (p : Path) → get (renamed names old new) p ≡ resolve after p

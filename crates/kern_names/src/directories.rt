@@ -1,7 +1,7 @@
 ghost use Rattle.std.specs.Prelude.{◌≡◌, ◌≢◌, ℕ, ◌∷◌, None, Some, IsSome, IsTrue, IfOk, OnOk, OnErr, is_some, not};
 ghost use Rattle.std.specs.Option.{option_map};
-ghost use Rattle.std.specs.FinMap.{get};
-ghost use Rattle.kern_model.specs.Name.{Path, has_entries, parent, below};
+ghost use Rattle.std.specs.FinMap.{get, remove};
+ghost use Rattle.kern_model.specs.Name.{Path, name_count, has_entries, parent, below};
 ghost use Rattle.kern_names.specs.Shown.{ShownBy, ShownBy-prop};
 ghost use Rattle.kern_names.specs.Tree.{IsWhole, LeadsTo, root_alone, has_directory, with_name, without_name, moved};
 ghost use Rattle.kern_names.specs.Requests.{MayHaveName, MayGo, MayMove, MayReplace};
@@ -178,6 +178,7 @@ impl Directories {
             → MayMove self.old (old_name.now ∷ path) (new_name.now ∷ above) }
         ensures ok { (path above : Path) → LeadsTo self.old path from.0 → LeadsTo self.old above to.0
             → OnOk result (self.new ≡ moved self.old (old_name.now ∷ path) (new_name.now ∷ above)) }
+        ensures counts { (node : ℕ) → OnOk result (name_count self.new.names node ≡ name_count self.old.names node) }
         ensures err { OnErr result (self.new ≡ self.old) }
     {
         match entries::child(&self.directories, from.0, old_name) {
@@ -201,11 +202,13 @@ impl Directories {
         requires under { IsTrue (has_directory self.old to.0) }
         requires may { (path above : Path) → LeadsTo self.old path from.0 → LeadsTo self.old above to.0
             → MayReplace self.old (old_name.now ∷ path) (new_name.now ∷ above) }
-        ensures { (path above : Path) (replaced : ℕ)
+        ensures names { (path above : Path) (replaced : ℕ)
             → LeadsTo self.old path from.0 → LeadsTo self.old above to.0
             → LeadsTo self.old (new_name.now ∷ above) replaced
             → self.new ≡ moved (without_name self.old (new_name.now ∷ above) replaced)
             (old_name.now ∷ path) (new_name.now ∷ above) }
+        ensures counts { (above : Path) (node : ℕ) → LeadsTo self.old above to.0
+            → name_count self.new.names node ≡ name_count (remove self.old.names (new_name.now ∷ above)) node }
     {
         let Some(node) = entries::child(&self.directories, from.0, old_name) else {
             unreachable!()

@@ -1,19 +1,23 @@
 -- What the table is after each kind of change to the entries that it shows.
-use Rattle.std.proofs.Common.{◌≡◌, ℕ, ◌+◌, ◌-◌, ◌≤◌, List, [], length, get_or, Option, None, Some, IsSome, is_some, cond, nat_lt, ◌||◌, refl, ap, sym, ◌∙◌, arith}
+use Rattle.std.proofs.Common.{◌≡◌, ℕ, ◌+◌, ◌-◌, ◌<◌, ◌≤◌, List, [], ◌∷◌, ◌++◌, length, get_or, subst, inl, inr, Option, None, Some, IsSome, is_some, cond, false, nat_lt, ◌||◌, refl, ap, sym, ◌∙◌, arith}
 use Rattle.std.specs.List.{sum_by, count_by}
 use Rattle.std.specs.Map.{lookup}
 use Rattle.std.specs.Ordering.{nat_cmp}
-use Rattle.std.specs.BTreeMap.{is_at, IsUnchanged}
+use Rattle.std.specs.BTreeMap.{is_at, IsUnchanged, btree_map_len}
+use Rattle.std.proofs.lemmas.Bool.{cases_eq}
+use Rattle.std.proofs.lemmas.List.{length_push}
+use Rattle.std.proofs.lemmas.List.Sums.{sum_by_push}
+use Rattle.kern_model.specs.declared.node.Node.{Node}
 use Rattle.kern_model.specs.declared.node.NodeKind.{NodeKind}
 use Rattle.kern_model.specs.State.{bytes_in, replace_bytes}
 use Rattle.kern_model.specs.Files.{total_limit}
 use Rattle.kern_nodes.specs.declared.inode.Inode.{Inode}
-use Rattle.kern_nodes.specs.NodeTable.{NodeTable, without_unkept, with_new, with_links, with_holders, with_node, links_of, holders_of}
-use Rattle.kern_nodes.specs.Inode.{Inodes, entry, listed, node_in, links_in, holders_in, size_in, table_of, Changes, ChangesBy}
+use Rattle.kern_nodes.specs.NodeTable.{NodeTable, IsMadeFrom, state_of, without_unkept, with_new, with_links, with_holders, with_node, links_of, holders_of}
+use Rattle.kern_nodes.specs.Inode.{Inodes, entry, listed, node_in, links_in, holders_in, one_in, size_in, table_of, Changes, ChangesBy}
 use Rattle.kern_nodes.specs.Bytes.{with_contents, contents_of}
-use Rattle.kern_nodes.proofs.ListedLaws.{listed_set, listed_kept, listed_same}
+use Rattle.kern_nodes.proofs.ListedLaws.{listed_set, listed_kept, listed_same, one_less}
 use Rattle.kern_nodes.proofs.CountLaws.{number_within, size_within, counted_after, listed_added, counted_more}
-use Rattle.kern_nodes.proofs.ShowLaws.{same_table, Shows, node_at, links_at, holders_at, live_entry, contents_within}
+use Rattle.kern_nodes.proofs.ShowLaws.{same_table, Shows, length_nodes, node_at, links_at, holders_at, live_entry, contents_within, sum_within}
 
 -- where the entries stay, so does the table
 pub unchanged : {old new : Inodes} {last bytes : ℕ} {table : NodeTable} → Shows old last bytes table → IsUnchanged old new → Shows new last bytes table
@@ -134,3 +138,63 @@ node_added {old} {new} {last} {bytes} {table} kind shows changes =
           ∙ ap (λ t. with_new t kind) shows.view;
       counted = counted_more old new last bytes added shows.counted changes refl;
     }
+
+-- the change back
+back : {old new : Inodes} {number : ℕ} → Changes old new number None → Changes new old number (entry old number)
+back {old} {new} {number} changes = record {
+  here = refl;
+  others = λ n apart. sym (changes.others n apart);
+  count = omega (arith, changes.count, ap one_in changes.here);
+}
+
+-- the list before an entry was there
+listed_less : {X : Type 0} (f : Option Inode → X) (old new : Inodes) (last : ℕ) (d : X) (xs : List X) (x : X) → Changes old new (last + 1) None → listed f old ((last + 1) + 1) ≡ xs ++ x ∷ []
+    → (listed f new (last + 1) ≡ xs) × (f (entry old (last + 1)) ≡ x)
+listed_less f old new last d xs x changes is = one_less _ _ _ _ (sym (listed_added f new old last (entry old (last + 1)) d (back changes)) ∙ is)
+
+-- an entry whose node is there counts
+one_there : (o : Option Inode) (node : Node) → node_in o ≡ Some node → one_in o ≡ 1
+one_there None node e = cc
+one_there (Some inode) node e = refl
+
+node_unmade_at : {old new : Inodes} {last bytes : ℕ} {table before : NodeTable} → Shows old (last + 1) bytes table → IsMadeFrom before table
+    → Changes old new (last + 1) None → Shows new last bytes before
+node_unmade_at {old} {new} {last} {bytes} {table} {before} shows from changes =
+    let is : table_of old (last + 1) ≡ with_new before from.kind = shows.view ∙ from.made in
+    let made : Node = record { kind = from.kind; bytes = [] } in
+    let nodes = listed_less node_in old new last None before.nodes (Some made) changes (ap (λ t. t.nodes) is) in
+    let links = listed_less links_in old new last 0 before.links 1 changes (ap (λ t. t.links) is) in
+    let holders = listed_less holders_in old new last 0 before.holders 0 changes (ap (λ t. t.holders) is) in
+    let one : Option Node → ℕ = λ o. cond (is_some o) 1 0 in
+    let counted : sum_by one (before.nodes ++ Some made ∷ []) ≡ btree_map_len old = ap (λ t. sum_by one t.nodes) (sym is) ∙ shows.counted.count in
+    let counts : sum_by one (before.nodes ++ Some made ∷ []) ≡ sum_by one before.nodes + 1 = sum_by_push one before.nodes (Some made) in
+    let total : sum_by size_in (before.nodes ++ Some made ∷ []) ≡ bytes = ap (λ t. sum_by size_in t.nodes) (sym is) ∙ shows.counted.total in
+    let totals : sum_by size_in (before.nodes ++ Some made ∷ []) ≡ sum_by size_in before.nodes + 0 = sum_by_push size_in before.nodes (Some made) in
+    let fewer : btree_map_len new + 1 ≡ btree_map_len old = omega (arith, one_there (entry old (last + 1)) made nodes.1, changes.count) in
+    let few : sum_by one before.nodes ≡ btree_map_len new = omega (arith, counted, counts, fewer) in
+    let sum : sum_by size_in before.nodes ≡ bytes = omega (arith, total, totals) in
+    record {
+      view = same_table (table_of new last) before nodes.0 links.0 holders.0;
+      counted = record {
+        last_of_all = λ n behind. elim (cases_eq n (last + 1)) [
+          | inl here ↦ ap (λ m. entry new m) here ∙ changes.here
+          | inr apart ↦ (let further : last + 1 < n = omega arith in changes.others n apart ∙ shows.counted.last_of_all n further)
+        ];
+        count = ap (sum_by one) nodes.0 ∙ few;
+        total = ap (sum_by size_in) nodes.0 ∙ sum;
+        within = shows.counted.within;
+      };
+    }
+
+-- the node that was made last isn't the first
+pub not_first : {inodes : Inodes} {last bytes : ℕ} {table before : NodeTable} → Shows inodes last bytes table → IsMadeFrom before table → 0 < last
+not_first {inodes} {last} {bytes} {table} {before} shows from =
+    let longer : length table.nodes ≡ length before.nodes + 1 = ap (λ t. length t.nodes) from.made ∙ length_push before.nodes (Some (record { kind = from.kind; bytes = [] })) in
+    omega (arith, length_nodes shows, longer, from.first)
+
+-- after the node that was made last was taken away, which is as it was made
+pub node_unmade : {old new : Inodes} {last bytes : ℕ} {table before : NodeTable} → Shows old last bytes table → IsMadeFrom before table
+    → Changes old new last None → Shows new (last - 1) bytes before
+node_unmade {old} {new} {last} {bytes} {table} {before} shows from changes =
+    let one : (last - 1) + 1 ≡ last = omega (arith, not_first shows from) in
+    node_unmade_at {old = old} {new = new} (subst (λ n. Shows old n bytes table) (sym one) shows) from (subst (λ n. Changes old new n None) (sym one) changes)

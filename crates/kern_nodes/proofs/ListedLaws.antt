@@ -1,5 +1,5 @@
 -- The list of what a function gives of each entry, when one entry changes.
-use Rattle.std.proofs.Common.{◌≡◌, ℕ, ◌+◌, ◌<◌, [], ◌∷◌, ◌++◌, length, get_or, set, Option, ap, sym, ◌∙◌, arith, ⊎_elim}
+use Rattle.std.proofs.Common.{◌≡◌, ℕ, ◌+◌, ◌<◌, List, [], ◌∷◌, ◌++◌, refl, length-append, length, get_or, set, Option, ap, sym, ◌∙◌, arith, ⊎_elim}
 use Rattle.std.proofs.lemmas.List.{get_or-set_same, get_or-set_other, ext_get_or, length-set}
 use Rattle.std.proofs.lemmas.List.FromFn.{length-map-range_with_len, get_or-map-range_with_len, map-range_with_len_more}
 use Rattle.std.proofs.lemmas.Bool.{cases_eq}
@@ -52,3 +52,14 @@ listed_kept f old new end number inode d changes same =
     (λ here. ap (λ m. f (entry new m)) here ∙ ap f changes.here ∙ same ∙ ap (λ m. f (entry old m)) (sym here))
     (λ apart. ap f (changes.others n apart))
     (cases_eq n number))
+
+-- lists with an element more each that are the same have the same elements
+pub one_less : {X : Type 0} (xs ys : List X) (x y : X) → xs ++ x ∷ [] ≡ ys ++ y ∷ [] → (xs ≡ ys) × (x ≡ y)
+one_less [] [] x y e = (refl, cc)
+one_less [] (b ∷ ys) x y e = absurd (omega (arith, ap length e, length-append ys (y ∷ [])))
+one_less (a ∷ xs) [] x y e = absurd (omega (arith, ap length e, length-append xs (x ∷ [])))
+one_less (a ∷ xs) (b ∷ ys) x y e =
+    let rest : xs ++ x ∷ [] ≡ ys ++ y ∷ [] = cc in
+    let head : a ≡ b = cc in
+    let less = one_less xs ys x y rest in
+    ((λ i. head i ∷ less.0 i), less.1)

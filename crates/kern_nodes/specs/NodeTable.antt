@@ -1,5 +1,5 @@
 -- The nodes of a file system by number.
-use Rattle.std.specs.Prelude.{◌≡◌, ℕ, ◌≤◌, nat_lt, Bool, ◌||◌, List, [], ◌∷◌, ◌++◌, Option, None, Some, slice_index, slice_set, length, if◌then◌else◌}
+use Rattle.std.specs.Prelude.{◌≡◌, ℕ, ◌<◌, ◌≤◌, nat_lt, Bool, ◌||◌, List, [], ◌∷◌, ◌++◌, Option, None, Some, slice_index, slice_set, length, if◌then◌else◌}
 use Rattle.sp_base.specs.Table.{at}
 use Rattle.kern_model.specs.declared.node.Node.{Node}
 use Rattle.kern_model.specs.declared.node.NodeKind.{NodeKind}
@@ -27,6 +27,12 @@ with_new table kind = record {
   links = table.links ++ 1 ∷ [];
   holders = table.holders ++ 0 ∷ [];
 }
+
+-- a table is another one, which has a first number, with an empty node more
+pub record IsMadeFrom (before after : NodeTable) : Type 0 where
+  pub kind : NodeKind
+  pub made : after ≡ with_new before kind
+  pub first : 0 < length before.nodes
 
 -- how many links the node of a number has
 abbrev pub links_of : NodeTable → ℕ → ℕ

@@ -11,7 +11,4 @@ mod tests;
 
 pub use fault::TreeFault;
 pub use nodes::Nodes;
-
-/// A node of a file system. The root is 1; the numbers rise in order of making, and none comes again.
-#[derive(Clone, Copy, Debug, PartialEq, Eq, PartialOrd, Ord)]
-pub struct NodeNo(pub u64);
+pub use sp_base::NodeNo;

@@ -1,16 +1,15 @@
 ghost use Rattle.std.specs.Prelude.{◌≡◌, ◌+◌, ◌-◌, ◌^◌, ◌<◌, ◌↔◌, length, IsTrue, IsSome, Some, IfOk, OnOk, OnErr};
 ghost use Rattle.sp_base.specs.Table.{at};
 ghost use Rattle.kern_model.specs.State.{kind_in, is_directory, has_room};
-ghost use Rattle.kern_nodes.specs.NodeTable.{IsSound, state_of, fresh_nodes, with_new, links_of, holders_of, with_links, with_holders, without_unkept};
+ghost use Rattle.kern_nodes.specs.NodeTable.{NodeTable, IsSound, IsMadeFrom, state_of, fresh_nodes, with_new, links_of, holders_of, with_links, with_holders, without_unkept};
 ghost use Rattle.kern_nodes.specs.Inode.{node_in};
 ghost use Rattle.kern_nodes.specs.Bytes.{contents_of};
 
 mod bytes;
 
-use crate::NodeNo;
 use crate::inode::{self, Inode, Inodes};
 use kern_model::NodeKind;
-use sp_base::NoMemory;
+use sp_base::{NoMemory, NodeNo};
 use std::alloc::Global;
 use std::marker::Model;
 
@@ -133,6 +132,15 @@ impl Nodes {
         inode::add(&mut self.inodes, alloc, number, kind)?;
         self.last = number;
         Ok(NodeNo(number))
+    }
+
+    /// Takes back the making of the node that was made last, which is as it was made. Its number is given again.
+    pub fn unmake(&mut self)
+        requires { (before : NodeTable) × IsMadeFrom before self.old }
+        ensures { (before : NodeTable) → IsMadeFrom before self.old → self.new ≡ before }
+    {
+        inode::remove(&mut self.inodes, self.last);
+        self.last -= 1;
     }
 
     /// Sets the count of links of a node.

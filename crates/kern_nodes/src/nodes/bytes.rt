@@ -6,8 +6,8 @@ ghost use Rattle.kern_nodes.specs.TreeFault.{error_in};
 ghost use Rattle.kern_nodes.specs.Bytes.{contents_of, with_contents, write_error, written, cut_error};
 
 use super::Nodes;
-use crate::{NodeNo, TreeFault, inode};
-use sp_base::{Errno, NoMemory, Octets};
+use crate::{TreeFault, inode};
+use sp_base::{Errno, NoMemory, NodeNo, Octets};
 use std::alloc::Global;
 
 /// The most bytes that one call reads.

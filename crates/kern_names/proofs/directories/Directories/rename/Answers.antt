@@ -1,7 +1,7 @@
 use Rattle.std.proofs.Common.{None, sym, ◌∙◌}
 use Rattle.kern_names.proofs.ShownLaws.{nothing}
-use Rattle.kern_names.proofs.InsideLaws.{shown_as, place, stands, named}
-use Rattle.kern_names.proofs.InsideMoves.{child_stands, rename_shown, rename_tree, rename_ok, rename_err}
+use Rattle.kern_names.proofs.InsideLaws.{ShowsOf, shown_as, place, stands, named}
+use Rattle.kern_names.proofs.InsideMoves.{child_stands, rename_shown, rename_tree, rename_ok, rename_err, rename_counts}
 use Rattle.kern_names.proofs.directories.Directories.rename.Goals as goal
 
 pub rename-requires-clause-free : goal.rename-requires-clause-free
@@ -46,6 +46,12 @@ returns-clause-ok c path above at into =
     rename_ok c.self.inside.directories c.self.invariant c.args.self.now (shown_as c.self.inside.directories c.self.inside.shown c.args.self.now c.self.view_is)
     c.args.from.0 c.args.to.0 c.args.old_name.now c.args.new_name.now c.requires.within c.requires.under c.requires.may
     c.in-Some.node c.in-Some.ensures c.rename.new.directories c.rename.result c.rename.ensures.ok c.rename.ensures.err c.self-1.given.0 path above at into
+
+pub returns-clause-counts : goal.returns-clause-counts
+returns-clause-counts c node =
+    rename_counts c.self.inside.directories c.self.invariant c.args.self.now (shown_as c.self.inside.directories c.self.inside.shown c.args.self.now c.self.view_is)
+    c.args.from.0 c.args.to.0 c.args.old_name.now c.args.new_name.now c.requires.within c.requires.under c.requires.may
+    c.in-Some.node c.in-Some.ensures c.rename.new.directories c.rename.result c.rename.ensures.ok c.rename.ensures.err c.self-1.given.0 node
 
 pub returns-clause-err : goal.returns-clause-err
 returns-clause-err c =

@@ -1,7 +1,7 @@
 use Rattle.std.proofs.Common.{sym, ◌∙◌}
 use Rattle.kern_names.proofs.ShownLaws.{none_by}
 use Rattle.kern_names.proofs.InsideLaws.{shown_as}
-use Rattle.kern_names.proofs.InsideMoves.{moved_there, replaced_there, two_nodes, two_places, replaced_bare, replace_shown, replace_tree, replace_is}
+use Rattle.kern_names.proofs.InsideMoves.{moved_there, replaced_there, two_nodes, two_places, replaced_bare, replace_shown, replace_tree, replace_is, replace_counts}
 use Rattle.kern_names.proofs.directories.Directories.replace.Goals as goal
 
 pub unreachable-requires : goal.unreachable-requires
@@ -48,8 +48,14 @@ invariant_of-self c =
     c.args.from.0 c.args.to.0 c.args.old_name.now c.args.new_name.now c.requires.within c.requires.under c.requires.may
     c.in-Some.node c.in-Some-child.replaced c.in-Some.ensures c.in-Some-child.ensures c.replace.new.directories c.replace.ensures
 
-pub returns : goal.returns
-returns c path above replaced at into taken =
+pub returns-clause-names : goal.returns-clause-names
+returns-clause-names c path above replaced at into taken =
     replace_is c.self.inside.directories c.self.invariant c.args.self.now (shown_as c.self.inside.directories c.self.inside.shown c.args.self.now c.self.view_is)
     c.args.from.0 c.args.to.0 c.args.old_name.now c.args.new_name.now c.requires.within c.requires.under c.requires.may
     c.in-Some.node c.in-Some-child.replaced c.in-Some.ensures c.in-Some-child.ensures c.replace.new.directories c.replace.ensures c.self-1.given.0 path above replaced at into taken
+
+pub returns-clause-counts : goal.returns-clause-counts
+returns-clause-counts c above node into =
+    replace_counts c.self.inside.directories c.self.invariant c.args.self.now (shown_as c.self.inside.directories c.self.inside.shown c.args.self.now c.self.view_is)
+    c.args.from.0 c.args.to.0 c.args.old_name.now c.args.new_name.now c.requires.within c.requires.under c.requires.may
+    c.in-Some.node c.in-Some-child.replaced c.in-Some.ensures c.in-Some-child.ensures c.replace.new.directories c.replace.ensures c.self-1.given.0 above node into

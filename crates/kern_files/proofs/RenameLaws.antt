@@ -1,0 +1,84 @@
+-- What a rename comes to, by what stands under the two paths.
+use Rattle.std.specs.Prelude.{◌↔◌, ◌==◌, if◌then◌else◌, IsTrue, is_some}
+use Rattle.std.proofs.Common.{◌≡◌, ◌≢◌, cond, ℕ, ◌+◌, ◌<◌, Bool, true, false, not, ◌&&◌, List, [], ◌∷◌, ◌++◌, Option, None, Some, refl, sym, ap, subst, ◌∙◌, arith}
+use Rattle.std.proofs.lemmas.Bool.{eq-eqb, true≢false}
+use Rattle.std.specs.Option.{option_map}
+use Rattle.std.specs.FinMap.{get, remove, get-remove}
+use Rattle.sp_base.specs.declared.errno.Errno.{Errno}
+use Rattle.sp_base.specs.declared.errno.Errno.TheVariants.{Einval}
+use Rattle.sp_base.specs.declared.names.NodeNo.{NodeNo}
+use Rattle.kern_model.specs.Name.{Path, name_count, below, is_same_path}
+use Rattle.kern_model.specs.Links.{is_below}
+use Rattle.kern_model.proofs.NamesLaws.{paths_total}
+use Rattle.kern_model.proofs.BelowLaws.{same_test, other_test, path_from_test, below_is}
+use Rattle.kern_names.specs.Tree.{Tree, has_directory}
+use Rattle.kern_names.proofs.ShownLaws.{not_longer, same_node}
+use Rattle.kern_names.proofs.CountLaws.{count_remove}
+use Rattle.kern_nodes.specs.NodeTable.{NodeTable}
+use Rattle.kern_files.specs.Files.{Files, rename_error, rename_error_of, move_error, replace_error, renamed_to, without_name, moved}
+use Rattle.kern_files.specs.Parts.{Agree}
+use Rattle.kern_files.specs.Requests.{IsDirectory}
+use Rattle.kern_files.proofs.AgreeLaws.{named, one_same}
+use Rattle.kern_files.proofs.FilesLaws.{Shows, in_tree, same_name}
+
+-- what is told of a name's node in the tree holds of the files
+pub told : {tree : Tree} {table : NodeTable} {f : Files} (path : Path) (found known : Option NodeNo) → Shows tree table f → get tree.names path ≡ option_map (λ (n : NodeNo). n.0) found → found ≡ known
+    → get f.names path ≡ option_map (λ (n : NodeNo). n.0) known
+told path found known shows e is = sym (same_name path shows) ∙ e ∙ ap (option_map (λ (n : NodeNo). n.0)) is
+
+-- a directory has one path
+pub one_path : {tree : Tree} {table : NodeTable} (node : ℕ) (p q : Path) → Agree tree table → IsTrue (has_directory tree node) → get tree.names p ≡ Some node → get tree.names q ≡ Some node → p ≡ q
+one_path {tree} {table} node p q a d e f = elim (is_same_path q p) as (λ b. is_same_path q p ≡ b → p ≡ q) [
+  | true ↦ λ t. sym (path_from_test q p t)
+  | false ↦ λ t.
+      (let left : get (remove tree.names p) q ≡ Some node = get-remove paths_total tree.names p q ∙ ap (λ b. cond b None (get tree.names q)) t ∙ f in
+      let some = named (remove tree.names p) q node left in
+      let less = count_remove tree.names p node node e in
+      let own = one_same node node refl in
+      let one = a.once node d in
+      absurd (omega (arith, some, less, own, one)))
+] refl
+
+-- two names are one exactly where their paths are
+pub one_name : {tree : Tree} {table : NodeTable} {f : Files} (from to : ℕ) (old_name new_name : List ℕ) (path above : Path) (b : Bool) → Shows tree table f → IsDirectory f from
+    → get f.names path ≡ Some from → get f.names above ≡ Some to → IsTrue b ↔ (from ≡ to) × (old_name ≡ new_name) → is_same_path (old_name ∷ path) (new_name ∷ above) ≡ b
+one_name from to old_name new_name path above true shows directory at into iff =
+    let same = iff.0 refl in
+    let one : path ≡ above = one_path from path above shows.agree (in_tree from shows directory) (same_name path shows ∙ at) (same_name above shows ∙ into ∙ ap (λ (n : ℕ). Some n) (sym same.0)) in
+    subst (λ (q : Path). is_same_path (old_name ∷ path) q ≡ true) (λ i. same.1 i ∷ one i) (same_test (old_name ∷ path))
+one_name from to old_name new_name path above false shows directory at into iff =
+    other_test (old_name ∷ path) (new_name ∷ above) (λ e.
+    let first : old_name ≡ new_name = cc in
+    let rest : path ≡ above = cc in
+    let node : from ≡ to = same_node (sym at ∙ ap (get _) rest ∙ into) in
+    true≢false (sym (iff.1 (node, first))))
+
+-- a name is below a path exactly where its directory is that or below it
+pub inside_is : (name : List ℕ) (above old : Path) → is_below (name ∷ above) old ≡ is_some (below above old)
+inside_is name above old = elim (is_same_path (name ∷ above) old) as (λ b. is_same_path (name ∷ above) old ≡ b → (is_some (cond b (Some []) (option_map (λ rest. name ∷ rest) (below above old))) && not b) ≡ is_some (below above old)) [
+  | true ↦ λ t. (elim (below above old) as (λ o. below above old ≡ o → false ≡ is_some o) [
+    | None ↦ λ e. refl
+    | Some r ↦ λ e. absurd (not_longer above r name (below_is old above r e ∙ ap (λ (q : Path). r ++ q) (sym (path_from_test (name ∷ above) old t))))
+  ] refl)
+  | false ↦ λ t. (elim (below above old) as (λ o. (is_some (option_map (λ rest. name ∷ rest) o) && true) ≡ is_some o) [
+    | None ↦ refl
+    | Some r ↦ refl
+  ])
+] refl
+
+-- the error where nothing is at the new path, and where something is
+pub error_free : (f : Files) (old new : Path) (node : ℕ) (inside : Bool) → get f.names old ≡ Some node → get f.names new ≡ None → is_below new old ≡ inside → rename_error f old new ≡ cond inside (Some Einval) None
+error_free f old new node inside there free below =
+    ap (λ o. rename_error_of f old o new) there ∙ ap (move_error f old node new) free ∙ ap (λ b. cond b (Some Einval) None) below
+
+pub error_taken : (f : Files) (old new : Path) (node replaced : ℕ) (same inside : Bool) → get f.names old ≡ Some node → get f.names new ≡ Some replaced → (node == replaced) ≡ same → is_below new old ≡ inside
+    → rename_error f old new ≡ cond same None (cond inside (Some Einval) (replace_error f node new replaced))
+error_taken f old new node replaced same inside there taken equal below =
+    ap (λ o. rename_error_of f old o new) there ∙ ap (move_error f old node new) taken
+    ∙ (λ i. cond (equal i) None (cond (below i) (Some Einval) (replace_error f node new replaced)))
+
+-- what the files are after a rename to a path where something is
+pub renamed_over : (f : Files) (old new : Path) (node replaced : ℕ) (one same : Bool) → get f.names new ≡ Some replaced → is_same_path old new ≡ one → (node == replaced) ≡ same
+    → renamed_to f old node new (get f.names new) ≡ cond one f (cond same (without_name f old node) (moved (without_name f new replaced) old new))
+renamed_over f old new node replaced one same taken alike equal =
+    ap (renamed_to f old node new) taken ∙ (λ i. cond (alike i) f (cond (equal i) (without_name f old node) (moved (without_name f new replaced) old new)))
