@@ -29,7 +29,6 @@ get_at_end [] x = refl
 get_at_end (y ∷ xs) x = get_at_end xs x
 
 shorter_by_one : (xs : List Entry) (x : Entry) → length (xs ++ x ∷ []) - 1 ≡ length xs
-
 shorter_by_one xs x = omega (arith, length_push xs x)
 
 get_last : (xs : List Entry) (x : Entry) → slice_get (xs ++ x ∷ []) (length (xs ++ x ∷ []) - 1) ≡ Some x
