@@ -5,7 +5,7 @@ use Rattle.std.specs.List.{AllByRecursion, position_or_len}
 use Rattle.std.specs.Option.{option_to_list}
 use Rattle.std.specs.Prelude.{position, slice_get}
 use Rattle.std.proofs.lemmas.Option.{get_or_from_slice_get, slice_get_within}
-use Rattle.sp_base.specs.Needs.{asks_of, needs_of}
+use Rattle.sp_base.specs.Needs.{IsPiece, ArePieces, asks_of, needs_of}
 use Rattle.sp_base.specs.declared.call.Call.{Call}
 use Rattle.std.proofs.lemmas.Bool.Decides.{nat_tests}
 use Rattle.std.proofs.lemmas.Grind.{common_steps}
@@ -15,8 +15,8 @@ use Rattle.sp_copy.specs.declared.part.Part.{Part}
 use Rattle.sp_copy.specs.declared.fault.CopyFault.{CopyFault}
 use Rattle.sp_copy.specs.declared.fault.CopyFault.TheVariants.{Fault, NoEnd}
 use Rattle.sp_copy.specs.Parts.{root_part}
-use Rattle.sp_copy.specs.Reading.{IsPiece, gives, given, read_from, read_of, text_before, text_in}
-use Rattle.sp_copy.specs.Gathering.{ArePieces, gathered, with_first}
+use Rattle.sp_copy.specs.Reading.{gives, given, read_from, read_of, text_before, text_in}
+use Rattle.sp_copy.specs.Gathering.{gathered, with_first}
 
 abbrev NotZero : ℕ → Type 0
 NotZero b = b ≡ 0 → ⊥

@@ -8,7 +8,7 @@ use Rattle.sp_base.specs.declared.need.Need.{Need}
 use Rattle.sp_copy.specs.declared.fault.CopyFault.{CopyFault}
 use Rattle.sp_copy.specs.declared.fault.CopyFault.TheVariants.{Fault, NoEnd, NoMemory}
 use Rattle.sp_copy.specs.declared.part.Part.{Part}
-use Rattle.sp_copy.specs.Reading.{IsPiece, read_of}
+use Rattle.sp_copy.specs.Reading.{read_of}
 
 -- the pieces with one before them, or the first fault
 abbrev pub with_first : Result (List ℕ) CopyFault → Result (List (List ℕ)) CopyFault → Result (List (List ℕ)) CopyFault
@@ -24,13 +24,6 @@ gathered parts (need ∷ needs) = with_first (read_of parts need) (gathered part
 -- what a call reads of a memory: a piece for each need, in order, or the fault of the first need that has one
 abbrev pub gather : Call → List Part → Result (List (List ℕ)) CopyFault
 gather call parts = gathered parts (needs_of call)
-
--- there is one piece for each need
-abbrev pub ArePieces : List Need → List (List ℕ) → Type 0
-ArePieces [] [] = Unit {0}
-ArePieces [] (piece ∷ pieces) = ⊥
-ArePieces (need ∷ rest) [] = ⊥
-ArePieces (need ∷ rest) (piece ∷ pieces) = IsPiece need piece × ArePieces rest pieces
 
 -- what a call is answered whose need has the fault: EFAULT, or ENAMETOOLONG of a text without end
 abbrev pub fault_errno : CopyFault → Option Errno

@@ -1,6 +1,5 @@
 -- What is read of a memory.
-use Rattle.std.specs.Prelude.{◌≡◌, ℕ, ◌-◌, ◌<◌, ◌==◌, ◌&&◌, Bool, Err, List, None, Ok, Option, Result, Some, [], ◌∷◌, drop, if◌then◌else◌, length, nat_le, position, take}
-use Rattle.std.specs.List.{AllByRecursion}
+use Rattle.std.specs.Prelude.{ℕ, ◌-◌, ◌<◌, ◌==◌, ◌&&◌, Bool, Err, List, None, Ok, Option, Result, Some, [], ◌∷◌, drop, if◌then◌else◌, length, nat_le, position, take}
 use Rattle.sp_base.specs.declared.need.Need.{Need}
 use Rattle.sp_base.specs.declared.need.Need.TheVariants.{Bytes, Text}
 use Rattle.sp_copy.specs.declared.fault.CopyFault.{CopyFault}
@@ -40,8 +39,3 @@ read_of parts need = read_from (root_part ∷ parts) need
 abbrev pub NamesBytes : Need → Type 0
 NamesBytes (Bytes addr len) = 0 < len
 NamesBytes (Text addr most) = Unit {0}
-
--- a piece is what a need asks for: as many bytes as its range has, or a text without its zero byte, below its limit
-abbrev pub IsPiece : Need → List ℕ → Type 0
-IsPiece (Bytes addr len) piece = length piece ≡ len
-IsPiece (Text addr limit) piece = (length piece < limit) × AllByRecursion (λ b. b ≡ 0 → ⊥) piece

@@ -1,6 +1,6 @@
 ghost use Rattle.std.specs.Prelude.{[], ◌≡◌, ◌∷◌, ◌+◌, ◌<◌, ◌≤◌, ◌⊎◌, Err, IfOk, IfSome, MatchOption, MatchResult, Ok, drop, length};
-ghost use Rattle.sp_base.specs.Needs.{needs_of};
-ghost use Rattle.sp_copy.specs.Gathering.{ArePieces, gather};
+ghost use Rattle.sp_base.specs.Needs.{ArePieces, needs_of};
+ghost use Rattle.sp_copy.specs.Gathering.{gather};
 
 use crate::fault::CopyFault;
 use crate::mem::Mem;

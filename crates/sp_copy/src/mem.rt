@@ -1,6 +1,7 @@
 ghost use Rattle.std.specs.Prelude.{◌≡◌, ◌<◌, ◌^◌, ◌⊎◌, [], Err, IfOk, IsOk, MatchResult, None, Ok, OnErr, OnOk, Some, length};
 ghost use Rattle.sp_copy.specs.Faults.{Rises, fault_of};
-ghost use Rattle.sp_copy.specs.Reading.{IsPiece, read_of};
+ghost use Rattle.sp_base.specs.Needs.{IsPiece};
+ghost use Rattle.sp_copy.specs.Reading.{read_of};
 ghost use Rattle.sp_copy.specs.Writing.{written};
 
 use crate::fault::{CopyFault, MemFault, NotWritable};

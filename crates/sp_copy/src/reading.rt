@@ -1,6 +1,7 @@
 ghost use Rattle.std.specs.Prelude.{◌≡◌, ◌<◌, ◌==◌, Err, IfOk, IfSome, MatchResult, Ok, length, position, take, true};
 ghost use Rattle.sp_copy.specs.declared.part.Part.{Part};
-ghost use Rattle.sp_copy.specs.Reading.{IsPiece, gives, given, read_from, text_in};
+ghost use Rattle.sp_base.specs.Needs.{IsPiece};
+ghost use Rattle.sp_copy.specs.Reading.{gives, given, read_from, text_in};
 
 use crate::fault::CopyFault;
 use crate::part::{Part, Right};
