@@ -1,1 +1,4 @@
 pub mod Kernel
+pub mod Joined
+pub mod Reached
+pub mod Opened

@@ -375,7 +375,8 @@ impl Tree {
     pub fn hold(&mut self, node: NodeNo)
         requires live { IsSome (at self.old.nodes node.0) }
         requires fits { holders_of self.old node.0 + 1 < 2 ^ 64 }
-        ensures { self.new ≡ with_holders self.old node.0 (holders_of self.old node.0 + 1) }
+        ensures held { self.new ≡ with_holders self.old node.0 (holders_of self.old node.0 + 1) }
+        ensures counted { holders_of self.new node.0 ≡ holders_of self.old node.0 + 1 }
     {
         self.nodes.hold(node);
     }
