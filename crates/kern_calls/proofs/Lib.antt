@@ -10,3 +10,4 @@ pub mod LinkLaws
 pub mod RmdirLaws
 pub mod OpenLaws
 pub mod ReadyLaws
+pub mod RenameLaws

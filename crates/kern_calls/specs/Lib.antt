@@ -2,3 +2,4 @@ pub mod Kernel
 pub mod Joined
 pub mod Reached
 pub mod Opened
+pub mod Renames

@@ -5,13 +5,13 @@ mod act;
 mod acted;
 mod descriptors;
 mod kernel;
-mod later_stub;
 mod names;
 mod nodes;
 mod opening;
 mod parts;
 mod processes;
 mod reads;
+mod renames;
 mod rows;
 mod seek;
 #[cfg(test)]
