@@ -331,10 +331,13 @@ impl Tree {
             }
             return Ok(());
         };
-        if node != replaced {
-            self.replace_name(from, old_name, to, new_name, replaced);
-        } else if !is_one_name(from, old_name, to, new_name) {
+        if is_one_name(from, old_name, to, new_name) {
+            return Ok(());
+        }
+        if node == replaced {
             self.drop_name(from, old_name, node);
+        } else {
+            self.replace_name(from, old_name, to, new_name, replaced);
         }
         Ok(())
     }
