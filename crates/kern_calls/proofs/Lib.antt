@@ -1,4 +1,3 @@
-pub mod Journals
 pub mod Kernels
 pub mod Joins
 pub mod WriteLaws

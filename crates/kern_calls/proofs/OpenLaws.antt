@@ -5,6 +5,7 @@ use Rattle.std.proofs.Common.{◌≡◌, ◌≢◌, ℕ, zero, suc, ◌+◌, ◌
 use Rattle.std.proofs.lemmas.Bool.{cases_eq}
 use Rattle.std.proofs.lemmas.List.Sums.{count_by-le-length}
 use Rattle.sp_base.specs.Table.{at, lowest_unused}
+use Rattle.sp_base.proofs.CountLaws.{one_if, count_push}
 use Rattle.sp_base.specs.declared.errno.Errno.{Errno}
 use Rattle.sp_base.specs.declared.errno.Errno.TheVariants.{Enoent, Enospc, Einval, Emfile}
 use Rattle.kern_model.specs.declared.node.Access.{Access}
@@ -27,10 +28,14 @@ use Rattle.kern_files.specs.Files.{Files, holders_of, with_holders, with_new, cr
 use Rattle.kern_calls.specs.Joined.{joined, AreHolders}
 use Rattle.kern_calls.specs.Opened.{opened_file, held, emptied_if, without_bytes_if}
 use Rattle.kern_calls.specs.Reached.{IsMissing}
-use Rattle.kern_calls.proofs.Joins.{one_if, count_push, set_other, of_own, of_other}
+use Rattle.kern_calls.proofs.Joins.{set_other, of_own, of_other}
 use Rattle.kern_calls.proofs.MakeLaws.{missing_in, room_done, room_full, spelled_by, free_at}
 
 -- ---- holders
+
+-- there is room after one was asked for
+pub some_room : (room : ℕ) → 0 < max room 1
+some_room room = grind arith
 
 -- another holder can be counted where another open file has room
 pub hold_fits : (o : OpenTables) (f : Files) (node : ℕ) → AreHolders o f → 0 < o.room → length o.files + o.room < 2 ^ 64 → holders_of f node + 1 < 2 ^ 64

@@ -4,13 +4,16 @@ use Rattle.std.proofs.Common.{◌≡◌, ◌≢◌, ℕ, Bool, true, false, List
 use Rattle.sp_base.specs.declared.call.Call.{Call}
 use Rattle.sp_base.specs.declared.call.Call.TheVariants as call
 use Rattle.sp_base.specs.declared.errno.Errno.{Errno}
+use Rattle.sp_base.specs.declared.errno.Errno.TheVariants.{Eagain}
+use Rattle.sp_base.specs.declared.limits.TheConstants.{FIRST_PROCESS}
+use Rattle.sp_base.specs.Table.{at, lowest_unused}
 use Rattle.kern_model.specs.declared.operation.Ins.{Ins}
 use Rattle.kern_model.specs.declared.operation.Ins.TheVariants.{Given, Fault}
 use Rattle.kern_model.specs.declared.operation.Op.{Op}
 use Rattle.kern_model.specs.declared.operation.Op.TheVariants.{Sys, Attach, Fork, Exec, Exit}
 use Rattle.kern_model.specs.Act.{act, act_op, act_call, has_step}
-use Rattle.kern_model.specs.State.{State}
-use Rattle.kern_model.specs.Step.{Step, failed, or_fail}
+use Rattle.kern_model.specs.State.{State, fresh_process, with_process}
+use Rattle.kern_model.specs.Step.{Step, answered, or_fail}
 use Rattle.kern_model.proofs.ProcessLaws.{call_acts}
 use Rattle.kern_calls.specs.Kernel.{is_built}
 
@@ -55,8 +58,8 @@ or_ready s (Some x) error act_with h = h x
 
 op_ready : (s : State) (pid : ℕ) (op : Op) (pieces : List (List ℕ)) → is_some (act_op s pid op pieces) ≡ is_built op
 op_ready s pid (Sys c) pieces = call_ready s pid c pieces
-op_ready s pid Attach pieces = or_ready s _ _ _ (λ _. refl)
-op_ready s pid Fork pieces = or_ready s _ _ _ (λ _. refl)
+op_ready s pid Attach pieces = or_ready s (lowest_unused s.processes FIRST_PROCESS) Eagain (λ new. answered new (with_process s new (Some fresh_process))) (λ _. refl)
+op_ready s pid Fork pieces = or_ready s (lowest_unused s.processes FIRST_PROCESS) Eagain (λ new. answered new (with_process s new (at s.processes pid))) (λ _. refl)
 op_ready s pid Exec pieces = refl
 op_ready s pid Exit pieces = refl
 

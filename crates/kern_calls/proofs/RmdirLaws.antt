@@ -16,7 +16,7 @@ use Rattle.kern_model.specs.Step.{Step, failed, answered, fail_if, with_found}
 use Rattle.kern_model.specs.Walk.{walk}
 use Rattle.kern_names.specs.declared.walk.Last.{Last}
 use Rattle.kern_open.specs.OpenTables.{OpenTables}
-use Rattle.kern_files.specs.Files.{Files, without_name, rmdir_error, rmdir_error_of}
+use Rattle.kern_files.specs.Files.{Files, without_name}
 use Rattle.kern_calls.specs.Joined.{joined, AreHolders}
 use Rattle.kern_calls.specs.Reached.{IsFound}
 use Rattle.kern_calls.proofs.RemoveLaws.{without_same, without_holders, stands_by, found_in}
@@ -108,17 +108,3 @@ pub rmdir_done : (o : OpenTables) (f g : Files) (s : State) (pid node : ℕ) (te
 rmdir_done o f g s pid node text name last view h m is directory empty idle gone =
     let here = rmdir_here o f g pid node text name last h (found_in o f s pid node text (Some last) view m) is (ap (λ (t : State). is_directory t node) view ∙ directory) empty idle gone in
     (subst (λ (t : State). act_rmdir t pid text ≡ answered 0 (joined o g)) view here.0, here.1)
-
--- the tree refuses no rmdir of an empty directory that stands under a name
-pub rmdir_allowed : (o : OpenTables) (f : Files) (s : State) (pid node : ℕ) (text name : List ℕ) (last : Last) (error : Errno) → joined o f ≡ s
-    → IsFound s text (walk s pid text) node (Some last) → name ≡ slice_range text last.from (last.from + last.len) → is_directory s node ≡ true
-    → ((path : Path) → get f.names path ≡ Some node → has_entries f.names path ≡ false)
-    → ((path : Path) → get f.names path ≡ Some last.directory.0 → Some error ≡ rmdir_error f (name ∷ path)) → ⊥
-rmdir_allowed o f s pid node text name last error view m is directory empty errors =
-    let here = found_in o f s pid node text (Some last) view m in
-    let st = stands_by o f text name (walk (joined o f) pid text) node last here is in
-    let none : rmdir_error f (name ∷ st.above) ≡ None =
-        ap (rmdir_error_of f (name ∷ st.above)) st.there
-        ∙ (λ i. if not ((ap (λ (t : State). is_directory t node) view ∙ directory) i) then Some Enotdir else if empty (name ∷ st.above) st.there i then Some Enotempty else None) in
-    let some : Some error ≡ None = errors st.above st.stands ∙ none in
-    cc

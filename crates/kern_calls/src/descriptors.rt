@@ -13,7 +13,7 @@ use sp_base::{Errno, Fd, Pid};
 pub(crate) fn has_bit(word: u64, bit: u64) -> bool
     ensures { result ≡ has_bit word bit }
 {
-    word & bit != 0
+    word & bit == bit
 }
 
 /// 1 for a flag that is set.

@@ -126,6 +126,7 @@ impl Parts {
         asked: Asked,
     ) -> Result<Outcome, NoMemory>
         requires live { IsSome (at self.old.processes pid.0) }
+        requires short { length text.now ≤ 1023 }
         requires unused { IsSome (lowest_unused (rows_of self.old pid.0) 0) }
         requires missing { IsMissing self.old text.now (walk self.old pid.0 text.now) last }
         ensures ok { IfOk result (λ outcome. (fd : ℕ) → lowest_unused (rows_of self.old pid.0) 0 ≡ Some fd
