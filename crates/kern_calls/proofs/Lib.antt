@@ -1,1 +1,12 @@
 pub mod Kernels
+pub mod Joins
+pub mod WriteLaws
+pub mod WalkLaws
+pub mod MakeLaws
+pub mod RemoveLaws
+pub mod UnnamedLaws
+pub mod LinkLaws
+pub mod RmdirLaws
+pub mod OpenLaws
+pub mod ReadyLaws
+pub mod RenameLaws

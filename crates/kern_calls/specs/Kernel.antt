@@ -11,7 +11,7 @@ use Rattle.kern_model.specs.declared.operation.Op.{Op}
 use Rattle.kern_model.specs.declared.operation.Op.TheVariants.{Sys, Attach, Fork, Exec, Exit}
 use Rattle.kern_model.specs.declared.outcome.Outcome.{Outcome}
 use Rattle.kern_model.specs.State.{State}
-use Rattle.kern_model.specs.Act.{act}
+use Rattle.kern_model.specs.Act.{act, has_step}
 use Rattle.kern_model.specs.Journal.{next_entry}
 
 -- a system call that needs no memory but for its entry: close, lseek, and fcntl other than F_DUPFD
@@ -28,6 +28,11 @@ is_steady Attach = false
 is_steady Fork = false
 is_steady Exec = true
 is_steady Exit = true
+
+-- an operation never waits: a call that is built, and any other operation
+abbrev pub is_built : Op → Bool
+is_built (Sys call) = has_step call
+is_built _ = true
 
 -- the process that an operation is performed for: none by an attach
 abbrev pub process_of : Op → Pid → Pid

@@ -1,1 +1,5 @@
 pub mod Kernel
+pub mod Joined
+pub mod Reached
+pub mod Opened
+pub mod Renames

@@ -1,4 +1,4 @@
-ghost use Rattle.std.specs.Prelude.{false, ◌≡◌, ◌≢◌, ◌≤◌, ◌<◌, ◌↔◌, ◌-◌, ℕ, [], None, IfOk, OnOk, OnErr, IsTrue, IsSome, max};
+ghost use Rattle.std.specs.Prelude.{false, ◌≡◌, ◌≢◌, ◌≤◌, ◌<◌, ◌↔◌, ◌-◌, ℕ, [], None, IfOk, OnOk, OnErr, IsTrue, IsSome, max, is_some, count_by};
 ghost use Rattle.sp_base.specs.Table.{at, lowest_unused};
 ghost use Rattle.sp_base.specs.declared.limits.TheConstants.{FIRST_PROCESS};
 ghost use Rattle.sp_base.specs.declared.names.Place.{Place};
@@ -7,7 +7,8 @@ ghost use Rattle.kern_model.specs.declared.operation.Ins.{Ins};
 ghost use Rattle.kern_model.specs.Act.{act};
 ghost use Rattle.kern_model.specs.Journal.{FitsPid, IsLegal, state_after};
 ghost use Rattle.kern_model.specs.Needs.{FitsIns};
-ghost use Rattle.kern_calls.specs.Kernel.{Appends, Performs, HandsBack, is_steady, is_steady_call, process_of, spare_after};
+ghost use Rattle.kern_model.specs.Sound.{IsSound};
+ghost use Rattle.kern_calls.specs.Kernel.{Appends, Performs, HandsBack, is_built, is_steady, is_steady_call, process_of, spare_after};
 
 use crate::acted::{Acted, Tried};
 use crate::parts::Parts;
@@ -59,6 +60,17 @@ fn is_steady(op: &Op) -> bool
     }
 }
 
+/// Whether an operation never waits.
+fn is_built(op: &Op) -> bool
+    ensures { result ≡ is_built op.now }
+{
+    match op {
+        Op::Sys(Call::Unknown { .. }) => true,
+        Op::Sys(call) => call.num() < 21,
+        _ => true,
+    }
+}
+
 /// Whether an operation needs no memory, with so much room that is kept.
 fn is_provided(op: &Op, spare: usize) -> bool
     ensures steady { IsTrue result → IsTrue (is_steady op.now) }
@@ -89,6 +101,7 @@ fn perform_steady(
     ins: Ins,
 ) -> Place
     requires process { FitsPid parts.old pid.0 op }
+    requires sound { IsSound parts.old }
     requires steady { IsTrue (is_steady op) }
     requires room { 0 < journal.old.spare }
     ensures { Appends parts.old journal.old pid who op ins result.0 parts.new journal.new (journal.old.spare - 1) }
@@ -115,6 +128,8 @@ fn perform(
     ins: Ins,
 ) -> Tried
     requires process { FitsPid parts.old pid.0 op }
+    requires sound { IsSound parts.old }
+    requires ins { FitsIns op ins }
     ensures done { (place : Place) → result ≡ Tried.Done place
         → Appends parts.old journal.old pid who op ins place.0 parts.new journal.new journal.old.spare }
     ensures waits { (o : Op) (i : Ins) → result ≡ Tried.NotReady o i
@@ -160,8 +175,10 @@ impl Kernel {
         })
     }
 
-    /// The allocator that it takes memory from.
-    pub fn alloc(&self) -> Global {
+    /// The allocator that it takes memory from, the only one.
+    pub fn alloc(&self) -> Global
+        ensures { (other : Global) → result ≡ other }
+    {
         self.alloc
     }
 
@@ -200,6 +217,23 @@ impl Kernel {
         ensures { IsTrue result ↔ (lowest_unused (state_after self.now.items).processes FIRST_PROCESS ≡ None) }
     {
         self.parts.is_full()
+    }
+
+    /// How many processes are live.
+    pub fn processes(&self) -> u32
+        ensures { result ≡ count_by is_some (state_after self.now.items).processes }
+    {
+        self.parts.processes()
+    }
+
+    /// Whether `act` performs an operation now, where memory doesn't end: false exactly where it answers NotReady. Takes no memory.
+    pub fn ready(&self, pid: Pid, op: &Op, ins: &Ins) -> bool
+        ensures { IsTrue result ↔ IsSome (act (state_after self.now.items) (process_of op.now pid).0 op.now ins.now) }
+    {
+        match ins {
+            Ins::Fault(_) => true,
+            Ins::Given(_) => is_built(op),
+        }
     }
 
     /// Performs an operation as one entry more, at the place that Done tells; an attach has no process, whatever number is given.

@@ -1,22 +1,23 @@
-ghost use Rattle.std.specs.Prelude.{ℕ, List, ◌≡◌, ◌↔◌, IsSome, IfOk, OnErr, IsTrue, Some, None, Ok};
+ghost use Rattle.std.specs.Prelude.{◌≡◌, ◌↔◌, IsSome, IfOk, IsTrue, None, is_some, count_by};
 ghost use Rattle.sp_base.specs.Table.{at, lowest_unused};
 ghost use Rattle.sp_base.specs.declared.limits.TheConstants.{FIRST_PROCESS};
-ghost use Rattle.kern_model.specs.Act.{act, act_op, act_call};
-ghost use Rattle.kern_model.specs.Journal.{FitsPid};
-ghost use Rattle.kern_model.specs.Plain.{step_of};
-ghost use Rattle.kern_calls.specs.Kernel.{is_steady, is_steady_call};
+ghost use Rattle.kern_model.specs.Outcome.{success, failure};
 ghost use Rattle.kern_model.specs.State.{opening};
 
-use kern_model::{Ins, Op, Outcome, Plain};
-use sp_base::{Call, NoMemory, Pid};
+use kern_files::Tree;
+use kern_model::Outcome;
+use kern_open::Opens;
+use sp_base::{Errno, NoMemory, Pid};
 use std::alloc::Global;
 use std::marker::Model;
 
-/// The parts that hold a kernel's state.
+/// The parts that hold a kernel's state: processes with their open files, and the tree of files. Each node has as many holders as
+/// open files.
 #[derive(Drop)]
 pub(crate) struct Parts {
-    alloc: Global,
-    plain: Plain,
+    pub(crate) alloc: Global,
+    pub(crate) opens: Opens,
+    pub(crate) tree: Tree,
 }
 
 impl Model for Parts {
@@ -27,7 +28,11 @@ impl Model for Parts {
 
     ghost coded = { state_code };
 
-    ghost view = { λ p. p.plain };
+    ghost use Rattle.kern_calls.specs.Joined.{joined, AreHolders};
+
+    ghost view = { λ p. joined p.opens p.tree };
+
+    ghost invariant = { λ p. AreHolders p.opens p.tree };
 }
 
 impl Parts {
@@ -37,77 +42,43 @@ impl Parts {
     {
         Ok(Parts {
             alloc,
-            plain: Plain::fresh(alloc)?,
+            opens: Opens::fresh(alloc)?,
+            tree: Tree::fresh(alloc)?,
         })
-    }
-
-    /// Performs a system call that takes no memory.
-    fn call_steady(&mut self, pid: Pid, call: &Call) -> Outcome
-        requires process { IsSome (at self.old.processes pid.0) }
-        requires steady { IsTrue (is_steady_call call.now) }
-        ensures { (pieces : List (List ℕ)) → act_call self.old pid.0 call.now pieces ≡ Some (result, self.new) }
-    {
-        match call {
-            Call::Close { fd } => self.plain.close(pid, *fd),
-            Call::Lseek { fd, offset, whence } => self.plain.lseek(pid, *fd, *offset, *whence),
-            Call::Fcntl {
-                fd,
-                command,
-                argument,
-            } => self.plain.fcntl(pid, *fd, *command, *argument),
-            _ => unreachable!(),
-        }
-    }
-
-    /// Performs an operation that has all that it reads, and takes no memory.
-    fn perform_steady(&mut self, pid: Pid, op: &Op) -> Outcome
-        requires process { FitsPid self.old pid.0 op.now }
-        requires steady { IsTrue (is_steady op.now) }
-        ensures { (pieces : List (List ℕ)) → act_op self.old pid.0 op.now pieces ≡ Some (result, self.new) }
-    {
-        match op {
-            Op::Sys(call) => self.call_steady(pid, call),
-            Op::Exec => self.plain.exec(pid),
-            Op::Exit => self.plain.exit(pid),
-            _ => unreachable!(),
-        }
-    }
-
-    /// Performs an operation that takes no memory.
-    pub(crate) fn act_steady(&mut self, pid: Pid, op: &Op, ins: &Ins) -> Outcome
-        requires process { FitsPid self.old pid.0 op.now }
-        requires steady { IsTrue (is_steady op.now) }
-        ensures { act self.old pid.0 op.now ins.now ≡ Some (result, self.new) }
-    {
-        match ins {
-            Ins::Fault(error) => Outcome::failure(self.alloc, *error),
-            Ins::Given(_) => self.perform_steady(pid, op),
-        }
-    }
-
-    /// Performs an operation: the outcome that the definition gives in this state, and the state after it.
-    /// None, exactly where the definition has no step, and want of memory leave the state as it was.
-    #[tactic(auto, using(kern_model::proofs::Lemmas::fits_can_ask))]
-    pub(crate) fn act(&mut self, pid: Pid, op: &Op, ins: &Ins) -> Result<Option<Outcome>, NoMemory>
-        requires process { FitsPid self.old pid.0 op.now }
-        ensures ok { IfOk result (λ answer. act self.old pid.0 op.now ins.now ≡ step_of answer self.new) }
-        ensures waits { result ≡ Ok None → self.new ≡ self.old }
-        ensures err { OnErr result (self.new ≡ self.old) }
-    {
-        self.plain.act(pid, op, ins)
     }
 
     /// Whether the process is live.
     pub(crate) fn is_live(&self, pid: Pid) -> bool
         ensures { IsTrue result ↔ IsSome (at self.now.processes pid.0) }
     {
-        self.plain.is_live(pid)
+        self.opens.is_live(pid)
     }
 
     /// Whether every number of a process is used.
     pub(crate) fn is_full(&self) -> bool
         ensures { IsTrue result ↔ (lowest_unused self.now.processes FIRST_PROCESS ≡ None) }
     {
-        self.plain.is_full()
+        self.opens.is_full()
+    }
+
+    /// How many processes are live.
+    pub(crate) fn processes(&self) -> u32
+        ensures { result ≡ count_by is_some self.now.processes }
+    {
+        self.opens.count()
+    }
+
+    /// A success with one value.
+    pub(crate) fn done(&self, value: u64) -> Outcome
+        ensures { result ≡ success value }
+    {
+        Outcome::success(self.alloc, value)
+    }
+
+    /// An error.
+    pub(crate) fn failed(&self, error: Errno) -> Outcome
+        ensures { result ≡ failure error }
+    {
+        Outcome::failure(self.alloc, error)
     }
 }

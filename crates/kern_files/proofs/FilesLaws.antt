@@ -2,14 +2,14 @@
 use Rattle.std.specs.Prelude.{IsTrue, IsSome, is_some, Result, OnOk, OnErr}
 use Rattle.std.specs.declared.result.Result.TheVariants.{Ok, Err}
 use Rattle.std.specs.Result.{is_err}
-use Rattle.std.proofs.Common.{◌≡◌, ◌≢◌, cond, ℕ, ◌+◌, ◌-◌, ◌<◌, nat_lt, Bool, true, false, ◌||◌, length, get_or, Option, None, Some, refl, sym, ap, subst, ◌∙◌, arith}
+use Rattle.std.proofs.Common.{◌≡◌, cond, ℕ, ◌-◌, ◌<◌, nat_lt, Bool, true, false, ◌||◌, length, get_or, Option, None, Some, refl, sym, ap, subst, ◌∙◌, arith}
 use Rattle.std.specs.FinMap.{get, remove}
 use Rattle.std.specs.Option.{option_map}
 use Rattle.std.proofs.lemmas.Bool.{false_from_ne_true, true≢false}
 use Rattle.std.proofs.lemmas.List.{get_or_past}
 use Rattle.sp_base.specs.declared.names.NodeNo.{NodeNo}
 use Rattle.kern_model.specs.declared.node.NodeKind.{NodeKind}
-use Rattle.kern_model.specs.Name.{Path, name_count, has_entries}
+use Rattle.kern_model.specs.Name.{Path, name_count}
 use Rattle.kern_model.specs.State.{is_directory}
 use Rattle.kern_names.specs.Tree as tree_of
 use Rattle.kern_names.specs.Tree.{Tree, has_directory}
@@ -17,7 +17,7 @@ use Rattle.kern_names.specs.Requests as names_may
 use Rattle.kern_names.proofs.ShownLaws.{same_node}
 use Rattle.kern_nodes.specs.NodeTable as table_of
 use Rattle.kern_nodes.specs.NodeTable.{NodeTable, with_links, with_node, links_of, holders_of}
-use Rattle.kern_files.specs.Files.{Files, state_of, without_unkept, without_name, moved}
+use Rattle.kern_files.specs.Files.{Files, without_unkept, without_name, moved}
 use Rattle.kern_files.specs.Parts.{Agree, files_of}
 use Rattle.kern_files.specs.Requests.{IsDirectory, MayReplace}
 use Rattle.kern_files.proofs.ListsLaws.{within_length}

@@ -1,5 +1,5 @@
 -- The root of fresh files.
-use Rattle.std.proofs.Common.{◌≡◌, cond, [], None, Some, refl, ap, ◌∙◌}
+use Rattle.std.proofs.Common.{cond, [], Some, refl, ap, ◌∙◌}
 use Rattle.std.specs.FinMap.{get, empty, get-insert}
 use Rattle.kern_model.specs.Name.{path_cmp}
 use Rattle.kern_model.specs.State.{root}

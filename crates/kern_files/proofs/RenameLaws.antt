@@ -1,13 +1,13 @@
 -- What a rename comes to, by what stands under the two paths.
-use Rattle.std.specs.Prelude.{◌↔◌, ◌==◌, if◌then◌else◌, IsTrue, is_some}
-use Rattle.std.proofs.Common.{◌≡◌, ◌≢◌, cond, ℕ, ◌+◌, ◌<◌, Bool, true, false, not, ◌&&◌, List, [], ◌∷◌, ◌++◌, Option, None, Some, refl, sym, ap, subst, ◌∙◌, arith}
+use Rattle.std.specs.Prelude.{◌↔◌, ◌==◌, IsTrue, is_some}
+use Rattle.std.proofs.Common.{◌≡◌, ◌≢◌, cond, ℕ, Bool, true, false, not, ◌&&◌, List, [], ◌∷◌, ◌++◌, Option, None, Some, refl, sym, ap, subst, ◌∙◌, arith}
 use Rattle.std.proofs.lemmas.Bool.{eq-eqb, true≢false}
 use Rattle.std.specs.Option.{option_map}
 use Rattle.std.specs.FinMap.{get, remove, get-remove}
-use Rattle.sp_base.specs.declared.errno.Errno.{Errno}
-use Rattle.sp_base.specs.declared.errno.Errno.TheVariants.{Einval}
+use Rattle.sp_base.specs.declared.errno.Errno.TheVariants.{Enotdir, Eisdir, Einval, Enotempty}
 use Rattle.sp_base.specs.declared.names.NodeNo.{NodeNo}
-use Rattle.kern_model.specs.Name.{Path, name_count, below, is_same_path}
+use Rattle.kern_model.specs.Name.{Path, has_entries, below, is_same_path}
+use Rattle.kern_model.specs.State.{is_directory}
 use Rattle.kern_model.specs.Links.{is_below}
 use Rattle.kern_model.proofs.NamesLaws.{paths_total}
 use Rattle.kern_model.proofs.BelowLaws.{same_test, other_test, path_from_test, below_is}
@@ -15,9 +15,9 @@ use Rattle.kern_names.specs.Tree.{Tree, has_directory}
 use Rattle.kern_names.proofs.ShownLaws.{not_longer, same_node}
 use Rattle.kern_names.proofs.CountLaws.{count_remove}
 use Rattle.kern_nodes.specs.NodeTable.{NodeTable}
-use Rattle.kern_files.specs.Files.{Files, rename_error, rename_error_of, move_error, replace_error, renamed_to, without_name, moved}
+use Rattle.kern_files.specs.Files.{Files, state_of, rename_error, rename_error_of, move_error, replace_error, renamed_to, without_name, moved}
 use Rattle.kern_files.specs.Parts.{Agree}
-use Rattle.kern_files.specs.Requests.{IsDirectory}
+use Rattle.kern_files.specs.Requests.{IsDirectory, MayReplace}
 use Rattle.kern_files.proofs.AgreeLaws.{named, one_same}
 use Rattle.kern_files.proofs.FilesLaws.{Shows, in_tree, same_name}
 
@@ -25,6 +25,12 @@ use Rattle.kern_files.proofs.FilesLaws.{Shows, in_tree, same_name}
 pub told : {tree : Tree} {table : NodeTable} {f : Files} (path : Path) (found known : Option NodeNo) → Shows tree table f → get tree.names path ≡ option_map (λ (n : NodeNo). n.0) found → found ≡ known
     → get f.names path ≡ option_map (λ (n : NodeNo). n.0) known
 told path found known shows e is = sym (same_name path shows) ∙ e ∙ ap (option_map (λ (n : NodeNo). n.0)) is
+
+-- what a directory tells of a name holds of the files
+pub found : {tree : Tree} {table : NodeTable} {f : Files} (directory : ℕ) (name : List ℕ) (path : Path) (child known : Option NodeNo) → Shows tree table f → get f.names path ≡ Some directory
+    → ((p : Path) → get tree.names p ≡ Some directory → get tree.names (name ∷ p) ≡ option_map (λ (n : NodeNo). n.0) child) → child ≡ known
+    → get f.names (name ∷ path) ≡ option_map (λ (n : NodeNo). n.0) known
+found directory name path child known shows at tells is = told (name ∷ path) child known shows (tells path (same_name path shows ∙ at)) is
 
 -- a directory has one path
 pub one_path : {tree : Tree} {table : NodeTable} (node : ℕ) (p q : Path) → Agree tree table → IsTrue (has_directory tree node) → get tree.names p ≡ Some node → get tree.names q ≡ Some node → p ≡ q
@@ -66,6 +72,11 @@ inside_is name above old = elim (is_same_path (name ∷ above) old) as (λ b. is
   ])
 ] refl
 
+-- what the tree says of a directory inside a node holds of the names in it
+pub inside_by : {tree : Tree} {table : NodeTable} {f : Files} (to node : ℕ) (name : List ℕ) (above old : Path) (inside : Bool) → Shows tree table f → get f.names above ≡ Some to → get f.names old ≡ Some node
+    → ((p q : Path) → get tree.names p ≡ Some to → get tree.names q ≡ Some node → inside ≡ is_some (below p q)) → is_below (name ∷ above) old ≡ inside
+inside_by to node name above old inside shows into there tells = inside_is name above old ∙ sym (tells above old (same_name above shows ∙ into) (same_name old shows ∙ there))
+
 -- the error where nothing is at the new path, and where something is
 pub error_free : (f : Files) (old new : Path) (node : ℕ) (inside : Bool) → get f.names old ≡ Some node → get f.names new ≡ None → is_below new old ≡ inside → rename_error f old new ≡ cond inside (Some Einval) None
 error_free f old new node inside there free below =
@@ -82,3 +93,41 @@ pub renamed_over : (f : Files) (old new : Path) (node replaced : ℕ) (one same 
     → renamed_to f old node new (get f.names new) ≡ cond one f (cond same (without_name f old node) (moved (without_name f new replaced) old new))
 renamed_over f old new node replaced one same taken alike equal =
     ap (renamed_to f old node new) taken ∙ (λ i. cond (alike i) f (cond (equal i) (without_name f old node) (moved (without_name f new replaced) old new)))
+
+-- ---- where there is no error
+
+-- something is under the old path
+pub allowed_some : (f : Files) (old new : Path) → rename_error f old new ≡ None → get f.names old ≢ None
+allowed_some f old new allowed none = let e = ap (λ o. rename_error_of f old o new) (sym none) ∙ allowed in absurd cc
+
+-- a free path isn't below the old one
+pub allowed_free : (f : Files) (old new : Path) (node : ℕ) → rename_error f old new ≡ None → get f.names old ≡ Some node → get f.names new ≡ None → is_below new old ≡ false
+allowed_free f old new node allowed there free =
+    by_test (is_below new old) (sym (error_free f old new node (is_below new old) there free refl) ∙ allowed) where
+      by_test : (b : Bool) → cond b (Some Einval) None ≡ None → b ≡ false
+      by_test true e = absurd cc
+      by_test false e = refl
+
+no_fault : (same inside d r e : Bool) → same ≡ false
+    → cond same None (cond inside (Some Einval) (cond (not d && r) (Some Eisdir) (cond (d && not r) (Some Enotdir) (cond (r && e) (Some Enotempty) None)))) ≡ None
+    → (inside ≡ false) × (IsTrue r → e ≡ false)
+no_fault true inside d r e s h = absurd (true≢false s)
+no_fault false true d r e s h = absurd cc
+no_fault false false d false e s h = (refl, λ t. absurd (true≢false (sym t)))
+no_fault false false false true e s h = absurd cc
+no_fault false false true true true s h = absurd cc
+no_fault false false true true false s h = (refl, λ t. refl)
+
+-- what is under the old path may take the place of another node
+pub allowed_taken : (f : Files) (old new : Path) (node replaced : ℕ) → rename_error f old new ≡ None → get f.names old ≡ Some node → get f.names new ≡ Some replaced → (node == replaced) ≡ false
+    → MayReplace f old new replaced
+allowed_taken f old new node replaced allowed there taken other =
+    let none = sym (error_taken f old new node replaced (node == replaced) (is_below new old) there taken refl refl) ∙ allowed in
+    let may = no_fault (node == replaced) (is_below new old) (is_directory (state_of f) node) (is_directory (state_of f) replaced) (has_entries f.names new) other none in
+    record {
+      there = ap (λ (o : Option ℕ). is_some o) there;
+      taken = taken;
+      empty = may.1;
+      outside = may.0;
+      two = λ e. true≢false (sym (eq-eqb node replaced (same_node (sym there ∙ e))) ∙ other);
+    }

@@ -1,5 +1,4 @@
 -- What a walk over the directories says of the files.
-use Rattle.std.specs.Prelude.{is_some}
 use Rattle.std.proofs.Common.{◌≡◌, ℕ, Bool, true, false, List, get_or, Option, None, Some, refl, sym, ap, subst, ◌∙◌}
 use Rattle.kern_model.specs.declared.node.Node.{Node}
 use Rattle.kern_model.specs.declared.walk.Walked.{Walked as Way}

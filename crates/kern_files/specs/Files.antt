@@ -11,7 +11,7 @@ use Rattle.kern_model.specs.declared.node.NodeKind.{NodeKind}
 use Rattle.kern_model.specs.Name.{Path, Names, name_count, has_entries, renamed, is_same_path}
 use Rattle.kern_model.specs.NameMap.{names_code}
 use Rattle.kern_model.specs.State.{State, opening, is_directory, has_room, bytes_of, replace_bytes}
-use Rattle.kern_model.specs.Files.{file_limit, is_above_total, fitting, put_over, resized}
+use Rattle.kern_model.specs.Files.{file_limit, is_above_total, fitting, put_over}
 use Rattle.kern_model.specs.Links.{is_below}
 use Rattle.kern_nodes.specs.NodeTable as table
 

@@ -266,9 +266,39 @@ impl Tree {
         self.nodes.drop_link(replaced);
     }
 
-    /// Gives what is under one name another. One object under two names loses the old one; a name that is its own stays. ENOENT
-    /// where nothing is under the old name, EINVAL of a place inside a directory itself, EISDIR, ENOTDIR and ENOTEMPTY of what
-    /// can't be replaced. An error leaves all as it was.
+    /// Why what is under one name can't have another: ENOENT where nothing is under the old name, EINVAL of a place inside a
+    /// directory itself, EISDIR, ENOTDIR and ENOTEMPTY of what can't be replaced. None exactly where `rename` fails at most for
+    /// want of memory. Takes no memory.
+    pub fn rename_fault(
+        &self,
+        from: NodeNo,
+        old_name: &[u8],
+        to: NodeNo,
+        new_name: &[u8],
+    ) -> Option<Errno>
+        requires within { IsDirectory self.now from.0 }
+        requires under { IsDirectory self.now to.0 }
+        ensures { (path above : Path) → get self.now.names path ≡ Some from.0 → get self.now.names above ≡ Some to.0
+            → result ≡ rename_error self.now (old_name.now ∷ path) (new_name.now ∷ above) }
+    {
+        let Some(node) = self.directories.child(from, old_name) else {
+            return Some(Errno::Enoent);
+        };
+        let inside = self.directories.is_inside(to, node);
+        let Some(replaced) = self.directories.child(to, new_name) else {
+            return inside.then_some(Errno::Einval);
+        };
+        if node == replaced {
+            return None;
+        }
+        if inside {
+            return Some(Errno::Einval);
+        }
+        self.replace_fault(node, replaced)
+    }
+
+    /// Gives what is under one name another. One object under two names loses the old one; a name that is its own stays. The
+    /// errors are those of `rename_fault`. An error leaves all as it was.
     pub fn rename(
         &mut self,
         from: NodeNo,
@@ -285,14 +315,13 @@ impl Tree {
             → OnOk result (self.new ≡ renamed_to self.old (old_name.now ∷ path) node (new_name.now ∷ above) (get self.old.names (new_name.now ∷ above))) }
         ensures err { OnErr result (self.new ≡ self.old) }
     {
+        if let Some(error) = self.rename_fault(from, old_name, to, new_name) {
+            return Err(TreeFault::Errno(error));
+        }
         let Some(node) = self.directories.child(from, old_name) else {
-            return Err(TreeFault::Errno(Errno::Enoent));
+            unreachable!();
         };
-        let inside = self.directories.is_inside(to, node);
         let Some(replaced) = self.directories.child(to, new_name) else {
-            if inside {
-                return Err(TreeFault::Errno(Errno::Einval));
-            }
             if self
                 .directories
                 .rename(from, old_name, to, new_name)
@@ -302,19 +331,14 @@ impl Tree {
             }
             return Ok(());
         };
-        if node == replaced {
-            if !is_one_name(from, old_name, to, new_name) {
-                self.drop_name(from, old_name, node);
-            }
+        if is_one_name(from, old_name, to, new_name) {
             return Ok(());
         }
-        if inside {
-            return Err(TreeFault::Errno(Errno::Einval));
+        if node == replaced {
+            self.drop_name(from, old_name, node);
+        } else {
+            self.replace_name(from, old_name, to, new_name, replaced);
         }
-        if let Some(error) = self.replace_fault(node, replaced) {
-            return Err(TreeFault::Errno(error));
-        }
-        self.replace_name(from, old_name, to, new_name, replaced);
         Ok(())
     }
 
@@ -351,7 +375,8 @@ impl Tree {
     pub fn hold(&mut self, node: NodeNo)
         requires live { IsSome (at self.old.nodes node.0) }
         requires fits { holders_of self.old node.0 + 1 < 2 ^ 64 }
-        ensures { self.new ≡ with_holders self.old node.0 (holders_of self.old node.0 + 1) }
+        ensures held { self.new ≡ with_holders self.old node.0 (holders_of self.old node.0 + 1) }
+        ensures counted { holders_of self.new node.0 ≡ holders_of self.old node.0 + 1 }
     {
         self.nodes.hold(node);
     }

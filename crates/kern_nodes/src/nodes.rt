@@ -154,7 +154,8 @@ impl Nodes {
     /// Sets the count of holders of a node.
     fn set_holders(&mut self, node: NodeNo, holders: u64)
         requires { IsSome (at self.old.nodes node.0) }
-        ensures { self.new ≡ with_holders self.old node.0 holders }
+        ensures set { self.new ≡ with_holders self.old node.0 holders }
+        ensures counted { holders_of self.new node.0 ≡ holders }
     {
         inode::set_holders(&mut self.inodes, node.0, holders);
     }
@@ -198,7 +199,8 @@ impl Nodes {
     pub fn hold(&mut self, node: NodeNo)
         requires live { IsSome (at self.old.nodes node.0) }
         requires fits { holders_of self.old node.0 + 1 < 2 ^ 64 }
-        ensures { self.new ≡ with_holders self.old node.0 (holders_of self.old node.0 + 1) }
+        ensures held { self.new ≡ with_holders self.old node.0 (holders_of self.old node.0 + 1) }
+        ensures counted { holders_of self.new node.0 ≡ holders_of self.old node.0 + 1 }
     {
         let holders = self.holders(node) + 1;
         self.set_holders(node, holders);

@@ -1,4 +1,4 @@
-ghost use Rattle.std.specs.Prelude.{◌≡◌, ◌≢◌, ℕ, ◌<◌, ◌↔◌, max, false, is_some, count_by, slice_set, IfOk, OnOk, OnErr, IfSome, IfNone, IsSome, IsTrue, None, Some};
+ghost use Rattle.std.specs.Prelude.{◌≡◌, ◌≢◌, ℕ, ◌+◌, ◌^◌, ◌<◌, ◌↔◌, length, max, false, is_some, count_by, slice_set, IfOk, OnOk, OnErr, IfSome, IfNone, IsSome, IsTrue, None, Some};
 ghost use Rattle.sp_base.specs.Table.{at, lowest_unused};
 ghost use Rattle.kern_model.specs.declared.node.Row.{Row as RowOf};
 ghost use Rattle.kern_model.specs.State.{fresh_process, replace_directory};
@@ -172,6 +172,7 @@ impl Opens {
     pub fn reserve(&mut self, more: u64) -> Result<(), NoMemory>
         ensures ok { OnOk result (self.new ≡ record self.old { room = max self.old.room more }) }
         ensures err { OnErr result (self.new ≡ self.old) }
+        ensures fits { length self.new.files + self.new.room < 2 ^ 64 }
     {
         if self.files.reserve(more).is_err() {
             return Err(NoMemory);

@@ -1,7 +1,7 @@
 //! Values that are numbered in the order in which they came, and are found by the keys of a slab.
 #![tactic(auto)]
 
-ghost use Rattle.std.specs.Prelude.{◌≡◌, ℕ, ◌+◌, ◌<◌, ◌≤◌, [], max, OnOk, IfOk, OnErr, IsSome, Some, None, slice_set, option_copied};
+ghost use Rattle.std.specs.Prelude.{◌≡◌, ℕ, ◌+◌, ◌^◌, ◌<◌, ◌≤◌, [], length, max, OnOk, IfOk, OnErr, IsSome, Some, None, slice_set, option_copied};
 ghost use Rattle.numbered.specs.Book.{Book, IsBook, Adds, number_at, item_at};
 
 use slab::Slab;
@@ -82,9 +82,11 @@ impl<T> Numbered<T> {
 
     /// Keeps room for so many more values, which `insert_reserved` then takes without more memory. An
     /// error leaves all as it was: want of memory, or of numbers, which end at 2^64 - 1.
+    #[tactic(auto, using(crate::proofs::BookLemmas::length_items))]
     pub fn reserve(&mut self, more: u64) -> Result<(), NoMemory>
         ensures ok { OnOk result (self.new ≡ record self.old { room = max self.old.room more }) }
         ensures err { OnErr result (self.new ≡ self.old) }
+        ensures fits { length self.new.items + self.new.room < 2 ^ 64 }
     {
         if more <= self.room {
             return Ok(());

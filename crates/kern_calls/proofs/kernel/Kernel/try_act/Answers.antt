@@ -4,6 +4,8 @@ use Rattle.sp_base.specs.declared.names.Pid.{Pid}
 use Rattle.kern_model.specs.declared.journal.Entry.{Entry}
 use Rattle.kern_model.specs.State.{State}
 use Rattle.kern_model.specs.Journal.{FitsPid, state_after}
+use Rattle.kern_model.specs.Sound.{IsSound}
+use Rattle.kern_model.proofs.SoundLaws.{journal_sound}
 use Rattle.kern_calls.specs.Kernel.{Appends, Performs, process_of}
 use Rattle.kern_calls.proofs.Kernels.{appended, performs, tried}
 use Rattle.kern_calls.proofs.kernel.Kernel.try_act.Goals as goal
@@ -30,3 +32,9 @@ returns-clause-done c place done =
     subst (λ (old : Room Entry). Performs old c.args.pid c.args.who c.args.op c.args.ins place.0 c.perform.new.journal) c.self.view_is
     (performs c.self.inside.journal c.perform.new.journal c.self.inside.parts c.perform.new.parts c.args.pid c.args.who c.args.op c.args.ins place.0 _ c.self.invariant kept
     (subst (λ (p : Pid). Appends c.self.inside.parts c.self.inside.journal p c.args.who c.args.op c.args.ins place.0 c.perform.new.parts c.perform.new.journal c.self.inside.journal.spare) c.process_of-pid.ensures (c.perform.ensures.done place done)))
+
+pub perform_steady-requires-clause-sound : goal.perform_steady-requires-clause-sound
+perform_steady-requires-clause-sound c = subst (λ (s : State). IsSound s) c.self.invariant.1 (journal_sound c.self.inside.journal.items)
+
+pub perform-requires-clause-sound : goal.perform-requires-clause-sound
+perform-requires-clause-sound c = subst (λ (s : State). IsSound s) c.self.invariant.1 (journal_sound c.self.inside.journal.items)

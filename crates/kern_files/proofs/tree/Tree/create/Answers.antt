@@ -1,4 +1,4 @@
-use Rattle.std.proofs.Common.{◌≡◌, ◌∷◌, None, sym, ap, ◌∙◌, subst, rules}
+use Rattle.std.proofs.Common.{◌≡◌, ◌∷◌, None, sym, ◌∙◌, subst, rules}
 use Rattle.std.specs.FinMap.{get}
 use Rattle.kern_model.specs.State.{is_directory_kind}
 use Rattle.kern_names.specs.Tree.{Tree, with_name}
