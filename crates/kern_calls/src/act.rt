@@ -1,9 +1,9 @@
 ghost use Rattle.std.specs.Prelude.{ℕ, List, ◌≡◌, IfOk, OnErr, IsSome, IsTrue, Some, None, Ok};
-ghost use Rattle.sp_base.specs.Needs.{needs_of};
+ghost use Rattle.sp_base.specs.Needs.{ArePieces, needs_of};
 ghost use Rattle.sp_base.specs.Table.{at};
 ghost use Rattle.kern_model.specs.Act.{first, second, act, act_op, act_call};
 ghost use Rattle.kern_model.specs.Journal.{FitsPid};
-ghost use Rattle.kern_model.specs.Needs.{ArePieces, FitsIns, needs};
+ghost use Rattle.kern_model.specs.Needs.{FitsIns, needs};
 ghost use Rattle.kern_model.specs.Plain.{step_of};
 ghost use Rattle.kern_model.specs.Sound.{IsSound};
 ghost use Rattle.kern_calls.specs.Kernel.{is_steady, is_steady_call};
