@@ -12,7 +12,7 @@ use Rattle.kern_model.specs.Name.{Path, Names, name_count, has_entries, renamed,
 use Rattle.kern_model.specs.NameMap.{names_code}
 use Rattle.kern_model.specs.State.{State, opening, is_directory, has_room, bytes_of, replace_bytes}
 use Rattle.kern_model.specs.Files.{file_limit, is_above_total, fitting, put_over}
-use Rattle.kern_model.specs.Links.{is_below}
+use Rattle.kern_model.specs.Links.{is_below, link_limit}
 use Rattle.kern_nodes.specs.NodeTable as table
 
 -- the nodes by absolute path, the nodes by number, and how many holders each number has
@@ -88,7 +88,7 @@ abbrev pub link_error : Files → ℕ → Path → Option Errno
 link_error f node path =
     if is_directory (state_of f) node then Some Eperm
     else if is_some (get f.names path) then Some Eexist
-    else if nat_le 32767 (name_count f.names node) then Some Emlink
+    else if nat_le link_limit (name_count f.names node) then Some Emlink
     else None
 
 -- what is found can't be unlinked: EPERM of a directory

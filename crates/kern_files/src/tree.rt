@@ -11,15 +11,12 @@ ghost use Rattle.kern_files.specs.Requests.{IsDirectory, MayReplace};
 ghost use Rattle.kern_files.specs.Reach.{Reaches};
 
 use crate::stat::Stat;
-use kern_model::NodeKind;
+use kern_model::{LINK_LIMIT, NodeKind};
 use kern_names::{Directories, Walked};
 use kern_nodes::{Nodes, TreeFault};
 use sp_base::{Errno, NoMemory, NodeNo, Octets};
 use std::alloc::Global;
 use std::marker::Model;
-
-/// The most names that a node has.
-const LINK_LIMIT: u32 = 32_767;
 
 /// The files of a kernel: the names of nodes in directories, and the nodes with their bytes. A node is there while it has a
 /// name or a holder.

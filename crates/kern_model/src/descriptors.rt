@@ -87,7 +87,7 @@ impl Descriptors {
     /// The rows by descriptor.
     pub fn rows(&self) -> &[Option<Row>]
         ensures rows { result.now ≡ self.now.rows }
-        ensures length { length result.now ≡ 128 }
+        ensures length { length result.now ≡ DESCRIPTORS }
     {
         &self.rows
     }

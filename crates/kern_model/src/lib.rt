@@ -5,6 +5,7 @@
 mod descriptors;
 mod journal;
 mod laws;
+mod limits;
 mod name_map;
 mod node;
 mod open_flags;
@@ -23,6 +24,7 @@ pub use laws::{
     legal_journals_replay, others_stay, reads_give_what_was_written, rename_moves_the_tree,
     states_stay_sound,
 };
+pub use limits::{FILE_LIMIT, LINK_LIMIT, NODE_LIMIT, TOTAL_LIMIT};
 pub use name_map::{Name, NameMap};
 pub use node::{Access, Node, NodeKind, Object, OpenFile, Path, Row};
 pub use open_flags::OpenFlags;

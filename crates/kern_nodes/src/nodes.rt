@@ -8,13 +8,10 @@ ghost use Rattle.kern_nodes.specs.Bytes.{contents_of};
 mod bytes;
 
 use crate::inode::{self, Inode, Inodes};
-use kern_model::NodeKind;
+use kern_model::{NODE_LIMIT, NodeKind};
 use sp_base::{NoMemory, NodeNo};
 use std::alloc::Global;
 use std::marker::Model;
-
-/// The most nodes that there are at a time.
-const NODE_LIMIT: usize = 65_536;
 
 /// The nodes by number, each with its bytes, its links and its holders. A node that loses the last of
 /// these is gone.

@@ -1,9 +1,10 @@
 -- How an `Opens` keeps open files: rows name them by keys, and each is kept with the count of the rows that name it.
 use Rattle.std.specs.Prelude.{◌≡◌, ℕ, ◌+◌, List, Option, Some, None, IsSome, map, length, sum_by, count_by}
 use Rattle.sp_base.specs.Table.{at}
+use Rattle.sp_base.specs.declared.limits.TheConstants.{DESCRIPTORS}
 use Rattle.kern_model.specs.declared.node.Row.{Row}
 use Rattle.kern_model.specs.declared.node.OpenFile.{OpenFile}
-use Rattle.kern_model.specs.State.{Process, rows_in, is_row_of}
+use Rattle.kern_model.specs.State.{Process, process_numbers, rows_in, is_row_of}
 use Rattle.kern_proc.specs.Processes.{rows_at}
 use Rattle.numbered.specs.Book.{Book, number_at, item_at}
 use Rattle.kern_open.specs.declared.shared.Shared.{Shared}
@@ -53,8 +54,8 @@ shared_at b key = item_at b.items (number_at b key)
 pub record IsCounted (ps : List (Option Process)) (b : Book Shared) : Type 0 where
   pub held : (pid fd : ℕ) (row : Row) → at (rows_at ps pid) fd ≡ Some row → IsSome (shared_at b row.file)
   pub counted : (key : ℕ) (shared : Shared) → shared_at b key ≡ Some shared → shared.rows ≡ row_count ps key
-  pub numbers : length ps ≡ 258
-  pub rows : (pid : ℕ) → IsSome (at ps pid) → length (rows_at ps pid) ≡ 128
+  pub numbers : length ps ≡ process_numbers
+  pub rows : (pid : ℕ) → IsSome (at ps pid) → length (rows_at ps pid) ≡ DESCRIPTORS
 
 -- rows are counted once more: each key's open file stays, and its count rises by the rows that name the key
 pub record Holds (old new : Book Shared) (rows : List (Option Row)) : Type 0 where

@@ -6,7 +6,7 @@ use Rattle.sp_base.specs.Table.{at}
 use Rattle.kern_model.specs.declared.node.OpenFile.{OpenFile}
 use Rattle.kern_model.specs.contracts.node.OpenFile as file
 use Rattle.kern_model.specs.declared.node.Row.{Row}
-use Rattle.kern_model.specs.State.{Process, rows_in, is_row_of}
+use Rattle.kern_model.specs.State.{Process, process_numbers, rows_in, is_row_of}
 use Rattle.kern_model.specs.StateCode.{process_code}
 use Rattle.kern_proc.specs.Processes.{rows_at, set_row}
 
@@ -24,7 +24,7 @@ tables_code = code_by (List (Option Process) × (List (Option OpenFile) × ℕ))
 
 -- no process and no open file
 abbrev pub no_tables : OpenTables
-no_tables = record { processes = replicate 258 None; files = []; room = 0 }
+no_tables = record { processes = replicate process_numbers None; files = []; room = 0 }
 
 -- the rows of a process
 abbrev pub rows_of : OpenTables → ℕ → List (Option Row)

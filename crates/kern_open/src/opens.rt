@@ -1,4 +1,5 @@
 ghost use Rattle.std.specs.Prelude.{◌≡◌, ◌≢◌, ℕ, ◌+◌, ◌^◌, ◌<◌, ◌↔◌, length, max, false, is_some, count_by, slice_set, IfOk, OnOk, OnErr, IfSome, IfNone, IsSome, IsTrue, None, Some};
+ghost use Rattle.sp_base.specs.declared.limits.TheConstants.{DESCRIPTORS};
 ghost use Rattle.sp_base.specs.Table.{at, lowest_unused};
 ghost use Rattle.kern_model.specs.declared.node.Row.{Row as RowOf};
 ghost use Rattle.kern_model.specs.State.{fresh_process, replace_directory};
@@ -162,7 +163,7 @@ impl Opens {
         ensures which { IfSome result (λ fd.
             lowest_unused (rows_of self.now pid.0) least ≡ Some fd.0) }
         ensures none { IfNone result (lowest_unused (rows_of self.now pid.0) least ≡ None) }
-        ensures below { IfSome result (λ fd. fd.0 < 128) }
+        ensures below { IfSome result (λ fd. fd.0 < DESCRIPTORS) }
     {
         self.procs.lowest_unused(pid, least)
     }
@@ -222,7 +223,7 @@ impl Opens {
         requires live { IsSome (at self.old.processes pid.0) }
         requires open { IsSome (at (rows_of self.old pid.0) fd) }
         requires unused { at (rows_of self.old pid.0) to.0 ≡ None }
-        requires below { to.0 < 128 }
+        requires below { to.0 < DESCRIPTORS }
         ensures { (row : RowOf) → at (rows_of self.old pid.0) fd ≡ Some row →
             self.new ≡ with_row self.old pid.0 to.0 (duplicate_of row) }
     {
@@ -238,7 +239,7 @@ impl Opens {
     pub fn dup_to(&mut self, pid: Pid, fd: u64, to: Fd) -> Option<OpenFile>
         requires live { IsSome (at self.old.processes pid.0) }
         requires open { IsSome (at (rows_of self.old pid.0) fd) }
-        requires below { to.0 < 128 }
+        requires below { to.0 < DESCRIPTORS }
         requires other { fd ≢ to.0 }
         ensures made { (row : RowOf) → at (rows_of self.old pid.0) fd ≡ Some row →
             self.new ≡ with_row (close_row self.old pid.0 to.0) pid.0 to.0 (duplicate_of row) }
@@ -291,7 +292,7 @@ impl Opens {
     /// Ends a process that has no rows left.
     pub fn end(&mut self, pid: Pid)
         requires live { IsSome (at self.old.processes pid.0) }
-        requires closed { (fd : ℕ) → fd < 128 → at (rows_of self.old pid.0) fd ≡ None }
+        requires closed { (fd : ℕ) → fd < DESCRIPTORS → at (rows_of self.old pid.0) fd ≡ None }
         ensures { self.new ≡ with_process self.old pid.0 None }
     {
         self.procs.end(pid);

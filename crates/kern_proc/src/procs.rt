@@ -1,12 +1,13 @@
 ghost use Rattle.std.specs.Prelude.{◌≡◌, ◌≢◌, ℕ, ◌<◌, ◌↔◌, is_some, count_by, length, replicate, slice_set, IfOk, OnErr, IfSome, OnSome, IfNone, IsNone, IsSome, IsTrue, None, Some, false};
 ghost use Rattle.sp_base.specs.Table.{at, lowest_unused};
-ghost use Rattle.kern_model.specs.State.{replace_directory};
+ghost use Rattle.sp_base.specs.declared.limits.TheConstants.{DESCRIPTORS};
+ghost use Rattle.kern_model.specs.State.{process_numbers, replace_directory};
 ghost use Rattle.kern_proc.specs.Processes.{rows_at, set_row, process_in, is_worked_in, row_of, file_of, flag_of, lowest_taken};
 
 use crate::fault::ProcFault;
 use crate::rows;
 use kern_model::{Descriptors, Row};
-use sp_base::{Fd, FileNo, NoMemory, NodeNo, Pid, table};
+use sp_base::{FIRST_PROCESS, Fd, FileNo, NoMemory, NodeNo, PROCESSES, Pid, table};
 use std::alloc::Global;
 use std::marker::Model;
 
@@ -21,7 +22,7 @@ pub struct Procs {
 impl Model for Procs {
     ghost use Rattle.std.specs.Prelude.{◌≡◌, length, List, Option};
     ghost use Rattle.std.specs.Coded.{coded_list, coded_option};
-    ghost use Rattle.kern_model.specs.State.{Process};
+    ghost use Rattle.kern_model.specs.State.{Process, process_numbers};
     ghost use Rattle.kern_model.specs.StateCode.{process_code};
 
     ghost Value = { List (Option Process) };
@@ -30,17 +31,17 @@ impl Model for Procs {
 
     ghost view = { λ p. p.processes.items };
 
-    ghost invariant = { λ p. length p.processes.items ≡ 258 };
+    ghost invariant = { λ p. length p.processes.items ≡ process_numbers };
 }
 
 impl Procs {
     /// No process.
     pub fn fresh(alloc: Global) -> Result<Procs, NoMemory>
-        ensures { IfOk result (λ procs. procs ≡ replicate 258 None) }
+        ensures { IfOk result (λ procs. procs ≡ replicate process_numbers None) }
     {
         Ok(Procs {
             alloc,
-            processes: table::blank(alloc, 258)?,
+            processes: table::blank(alloc, (FIRST_PROCESS + PROCESSES) as usize)?,
         })
     }
 
@@ -149,7 +150,7 @@ impl Procs {
         ensures which { IfSome result (λ fd.
             lowest_unused (rows_at self.now pid.0) least ≡ Some fd.0) }
         ensures none { IfNone result (lowest_unused (rows_at self.now pid.0) least ≡ None) }
-        ensures below { IfSome result (λ fd. fd.0 < 128) }
+        ensures below { IfSome result (λ fd. fd.0 < DESCRIPTORS) }
     {
         let Some(fd) = table::lowest_unused(self.process(pid).rows(), least as usize) else {
             return None;
@@ -183,7 +184,7 @@ impl Procs {
     /// had.
     pub fn put_at(&mut self, pid: Pid, fd: Fd, file: FileNo) -> Option<FileNo>
         requires live { IsSome (at self.old pid.0) }
-        requires below { fd.0 < 128 }
+        requires below { fd.0 < DESCRIPTORS }
         ensures before { result ≡ file_of (at (rows_at self.old pid.0) fd.0) }
         ensures made { self.new ≡ set_row self.old pid.0 fd.0 (row_of file false) }
     {
@@ -265,7 +266,7 @@ impl Procs {
     /// Ends a process that has no rows left.
     pub fn end(&mut self, pid: Pid)
         requires live { IsSome (at self.old pid.0) }
-        requires closed { (fd : ℕ) → fd < 128 → at (rows_at self.old pid.0) fd ≡ None }
+        requires closed { (fd : ℕ) → fd < DESCRIPTORS → at (rows_at self.old pid.0) fd ≡ None }
         ensures { self.new ≡ slice_set self.old pid.0 None }
     {
         self.processes[pid.0 as usize] = None;

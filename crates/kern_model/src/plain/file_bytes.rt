@@ -2,12 +2,10 @@ ghost use Rattle.std.specs.Prelude.{◌≡◌, ◌++◌, ◌+◌, drop, sum_by, 
 ghost use Rattle.kern_model.specs.State.{bytes_in};
 ghost use Rattle.kern_model.specs.Files.{resized, put_over, fitting};
 
+use crate::limits::FILE_LIMIT;
 use crate::node::Node;
 use sp_base::{NoMemory, Octets};
 use std::alloc::Global;
-
-/// The most bytes that a file has.
-pub(crate) const FILE_LIMIT: u64 = 16_777_216;
 
 /// The bytes of a node, none where there is no node.
 pub(crate) fn bytes_in(node: &Option<Node>) -> &[u8]

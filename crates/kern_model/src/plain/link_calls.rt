@@ -7,6 +7,7 @@ ghost use Rattle.kern_model.specs.Links.{act_link, act_unlink, act_mkdir, act_rm
 
 use super::Plain;
 use crate::descriptors::Descriptors;
+use crate::limits::{LINK_LIMIT, NODE_LIMIT};
 use crate::node::{Node, NodeKind, Path};
 use crate::outcome::Outcome;
 use crate::path::is_same;
@@ -52,7 +53,7 @@ impl Plain {
     pub(crate) fn has_room(&self) -> bool
         ensures { result ≡ has_room self.now }
     {
-        count_nodes(&self.nodes) < 65536
+        count_nodes(&self.nodes) < NODE_LIMIT
     }
 
     /// Makes a node under a path. Want of memory leaves the state as it was.
@@ -106,7 +107,7 @@ impl Plain {
         if slash {
             return Ok(self.failed(Errno::Enoent));
         }
-        if self.names.name_count(node) >= 32767 {
+        if self.names.name_count(node) >= LINK_LIMIT as usize {
             return Ok(self.failed(Errno::Emlink));
         }
         self.names.insert(path, node)?;

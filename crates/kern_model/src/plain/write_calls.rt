@@ -5,15 +5,13 @@ ghost use Rattle.kern_model.specs.Plain.{after_write};
 ghost use Rattle.kern_model.specs.Files.{is_above_total, is_file_kind, write_start, write_node, act_write, act_pwrite, act_ftruncate};
 
 use super::Plain;
-use super::file_bytes::{FILE_LIMIT, fitting, put_over, resized, size_of_all};
+use super::file_bytes::{fitting, put_over, resized, size_of_all};
 use super::file_calls::{at_offset, is_negative};
 use super::open::may_write;
+use crate::limits::{FILE_LIMIT, TOTAL_LIMIT};
 use crate::node::{NodeKind, OpenFile};
 use crate::outcome::Outcome;
 use sp_base::{Errno, NoMemory, Pid};
-
-/// The most bytes that all files have together.
-const TOTAL_LIMIT: u128 = 268_435_456;
 
 impl Plain {
     /// How many bytes all files have together.
@@ -27,10 +25,11 @@ impl Plain {
     fn is_above_total(&self, node: u64, len: u64) -> bool
         ensures { result ≡ is_above_total self.now node len }
     {
+        let limit = u128::from(TOTAL_LIMIT);
         let others = self
             .total_size()
             .saturating_sub(self.bytes(node).len() as u128);
-        others > TOTAL_LIMIT || others + u128::from(len) > TOTAL_LIMIT
+        others > limit || others + u128::from(len) > limit
     }
 
     /// Where a write of an open file starts.

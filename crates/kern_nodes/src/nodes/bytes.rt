@@ -7,17 +7,9 @@ ghost use Rattle.kern_nodes.specs.Bytes.{contents_of, with_contents, write_error
 
 use super::Nodes;
 use crate::{TreeFault, inode};
-use sp_base::{Errno, NoMemory, NodeNo, Octets};
+use kern_model::{FILE_LIMIT, TOTAL_LIMIT};
+use sp_base::{Errno, NoMemory, NodeNo, Octets, TRANSFER};
 use std::alloc::Global;
-
-/// The most bytes that one call reads.
-const READ_LIMIT: u64 = 65_536;
-
-/// The most bytes that a file has.
-const FILE_LIMIT: u64 = 16_777_216;
-
-/// The most bytes that all files have together.
-const TOTAL_LIMIT: u64 = 268_435_456;
 
 impl Nodes {
     /// A copy of the bytes of a node from an offset on: at most so many, and at most 65,536. The only
@@ -32,7 +24,7 @@ impl Nodes {
         requires { IsSome (at self.now.nodes node.0) }
         ensures { IfOk result (λ bytes. bytes ≡ bytes_from (state_of self.now) node.0 from max) }
     {
-        let count = max.min(READ_LIMIT) as usize;
+        let count = max.min(TRANSFER) as usize;
         self.inode(node).contents.read(alloc, from, count)
     }
 
