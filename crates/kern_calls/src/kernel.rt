@@ -175,8 +175,10 @@ impl Kernel {
         })
     }
 
-    /// The allocator that it takes memory from.
-    pub fn alloc(&self) -> Global {
+    /// The allocator that it takes memory from, the only one.
+    pub fn alloc(&self) -> Global
+        ensures { (other : Global) → result ≡ other }
+    {
         self.alloc
     }
 

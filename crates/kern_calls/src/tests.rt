@@ -7,6 +7,7 @@ ghost use Rattle.kern_model.specs.Needs.{FitsIns, IsPiece, ArePieces, IsFaultOf}
 
 mod descriptors;
 mod files;
+mod kernel;
 mod links;
 mod paths;
 mod processes;
@@ -136,10 +137,12 @@ impl Both {
             return Err(Fail::new("a row that no caller could ask for"));
         }
         let who = Who::Host(0, self.kernel.journal().len() as u64);
+        let ready = self.kernel.ready(pid, &op, &ins);
         match self.kernel.act(pid, who, op, ins) {
-            Acted::Done(_) => {}
-            Acted::NotReady => return Ok(String::from_str(self.alloc, "waits")?),
+            Acted::Done(_) if ready => {}
+            Acted::NotReady if !ready => return Ok(String::from_str(self.alloc, "waits")?),
             Acted::NoMemory => return Err(Fail::new("no memory")),
+            _ => return Err(Fail::new("the kernel did otherwise than it was ready to")),
         }
         match self.kernel.journal().last() {
             Some(entry) => shown(self.alloc, step, &entry.outcome),
