@@ -42,10 +42,7 @@ impl Parts {
         ensures ok { IfOk result (λ ends. MayRename self.now pid.0 old.now new.now ends.0 ends.1) }
         ensures err { (error : Error) → result ≡ Err error → act_rename self.now pid.0 old.now new.now ≡ failed error self.now }
     {
-        let found = match self.found(pid, old) {
-            Ok(found) => found,
-            Err(error) => return Err(error),
-        };
+        let found = self.found(pid, old)?;
         match self.walk(pid, new) {
             Walked::Fault(error) => Err(error),
             Walked::Missing(to) => {

@@ -4,3 +4,4 @@ pub mod FilesLaws
 pub mod WalkLaws
 pub mod RenameLaws
 pub mod FreshLaws
+pub mod GrowthLaws
