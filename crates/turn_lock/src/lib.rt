@@ -9,3 +9,6 @@ mod view;
 pub use object::Object;
 pub use turn::{Pass, Turn};
 pub use view::{Caller, Entry, Known, Slot, Stage, View};
+
+#[cfg(test)]
+mod tests;
