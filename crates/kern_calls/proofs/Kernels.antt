@@ -15,7 +15,7 @@ use Rattle.kern_model.specs.Needs.{FitsIns}
 use Rattle.kern_calls.specs.declared.acted.Tried.{Tried}
 use Rattle.kern_calls.specs.declared.acted.Tried.TheVariants.{Done, NotReady, NoMemory}
 use Rattle.kern_calls.specs.Kernel.{Appends, HandsBack, Performs, process_of, spare_after}
-use Rattle.kern_calls.proofs.Journals.{state_after-push, legal_push, entry, after_entry-entry, follows_by}
+use Rattle.kern_model.proofs.Journals.{state_after-push, legal_push, entry, after_entry-entry, follows_by}
 
 -- the state that the parts hold is the one that the journal, which is legal, leaves
 abbrev pub IsKernel : Room Entry → State → Type 0

@@ -35,3 +35,5 @@ pub mod EntryLaws
 pub mod TreeLaws
 pub mod PlaceLaws
 pub mod LeadLaws
+pub mod Journals
+pub mod UnnamedLaws

@@ -92,7 +92,8 @@ fn count_of(names: &[Name], node: u64) -> usize
 
 /// The path of the first name that a node has.
 fn path_in(alloc: Global, names: &[Name], node: u64) -> Result<Option<Path>, NoMemory>
-    ensures { IfOk result (λ path. path ≡ option_map (λ e. e.0) (list_find (λ e. e.1 == node) (list_of names.now))) }
+    ensures { IfOk result (λ path. path
+        ≡ option_map (λ e. e.0) (list_find (λ e. e.1 == node) (list_of names.now))) }
 {
     for name in names {
         if name.node == node {
@@ -116,7 +117,8 @@ fn has_name_in(names: &[Name], directory: &[Octets]) -> bool
 
 /// Takes a path's name away.
 fn drop_name(names: &mut Vec<Name>, path: &[Octets])
-    ensures { list_of names.new.items ≡ filter (λ e. not (is_same_path e.0 path.now)) (list_of names.old.items) }
+    ensures { list_of names.new.items
+        ≡ filter (λ e. not (is_same_path e.0 path.now)) (list_of names.old.items) }
 {
     names.retain(|name| !is_same(name.path.slice(), path));
 }
@@ -128,7 +130,8 @@ fn renamed_names(
     old: &[Octets],
     new: &[Octets],
 ) -> Result<NameMap, NoMemory>
-    ensures { IfOk result (λ map. map ≡ from_entries (moved_entries old.now new.now (list_of names.now))) }
+    ensures { IfOk result (λ map. map
+        ≡ from_entries (moved_entries old.now new.now (list_of names.now))) }
 {
     let mut renamed = NameMap::fresh(alloc);
     for i in (0..names.len()).rev() {
@@ -155,7 +158,8 @@ fn copy_names(alloc: Global, names: &[Name]) -> Result<Vec<Name>, NoMemory>
 
 /// Puts a name into its place in the order; a path that is there gets another node.
 fn put_name(names: &mut Vec<Name>, path: Path, node: u64) -> Result<(), NoMemory>
-    ensures ok { OnOk result (list_of names.new.items ≡ put path_cmp path node (list_of names.old.items)) }
+    ensures ok { OnOk result (list_of names.new.items
+        ≡ put path_cmp path node (list_of names.old.items)) }
     ensures err { OnErr result (names.new.items ≡ names.old.items) }
 {
     let place = place_of(names, path.slice());

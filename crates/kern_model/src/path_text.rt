@@ -39,14 +39,16 @@ pub fn ends_with_slash(text: &[u8]) -> bool
 
 /// What stands between the slashes of a text.
 fn parts(alloc: Global, text: &[u8]) -> Result<Vec<&[u8]>, AllocError>
-    ensures { IfOk result (λ parts. map (λ x. x.now) parts.items ≡ slice_split (λ b. b == 47) text.now) }
+    ensures { IfOk result (λ parts. map (λ x. x.now) parts.items
+        ≡ slice_split (λ b. b == 47) text.now) }
 {
     text.split(|b| *b == b'/').collect(alloc)
 }
 
 /// Copies of the parts that are not empty.
 fn copies(alloc: Global, parts: &[&[u8]]) -> Result<Path, NoMemory>
-    ensures { IfOk result (λ copies. copies ≡ filter (λ component. nat_lt 0 (length component)) (map (λ x. x.now) parts.now)) }
+    ensures { IfOk result (λ copies. copies
+        ≡ filter (λ component. nat_lt 0 (length component)) (map (λ x. x.now) parts.now)) }
 {
     let mut copies = Items::none(alloc);
     for part in parts {

@@ -53,7 +53,8 @@ impl Model for Plain {
 
 /// Whether some row of some process is of an open file.
 fn is_held_in(processes: &[Option<Descriptors>], file: u64) -> bool
-    ensures { result ≡ list_any (λ process. list_any (is_row_of file) (rows_in process)) processes.now }
+    ensures { result ≡ list_any
+        (λ process. list_any (is_row_of file) (rows_in process)) processes.now }
 {
     for process in processes {
         if let Some(descriptors) = process {

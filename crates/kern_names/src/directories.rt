@@ -85,7 +85,8 @@ impl Directories {
     /// Whether a directory is another node, or stands somewhere below it.
     pub fn is_inside(&self, directory: NodeNo, top: NodeNo) -> bool
         requires { IsTrue (has_directory self.now directory.0) }
-        ensures { (path above : Path) → LeadsTo self.now path directory.0 → LeadsTo self.now above top.0
+        ensures { (path above : Path) → LeadsTo self.now path directory.0
+            → LeadsTo self.now above top.0
             → result ≡ is_some (below path above) }
     {
         let directories = &self.directories;
@@ -129,7 +130,8 @@ impl Directories {
     /// Takes a name of a directory away. Its node is no directory from then on.
     pub fn remove(&mut self, directory: NodeNo, name: &[u8])
         requires within { IsTrue (has_directory self.old directory.0) }
-        requires may { (path : Path) → LeadsTo self.old path directory.0 → MayGo self.old (name.now ∷ path) }
+        requires may { (path : Path) → LeadsTo self.old path directory.0
+            → MayGo self.old (name.now ∷ path) }
         ensures { (path : Path) (node : ℕ)
             → LeadsTo self.old path directory.0 → LeadsTo self.old (name.now ∷ path) node
             → self.new ≡ without_name self.old (name.now ∷ path) node }
@@ -174,11 +176,14 @@ impl Directories {
     ) -> Result<(), NoMemory>
         requires within { IsTrue (has_directory self.old from.0) }
         requires under { IsTrue (has_directory self.old to.0) }
-        requires may { (path above : Path) → LeadsTo self.old path from.0 → LeadsTo self.old above to.0
+        requires may { (path above : Path) → LeadsTo self.old path from.0
+            → LeadsTo self.old above to.0
             → MayMove self.old (old_name.now ∷ path) (new_name.now ∷ above) }
-        ensures ok { (path above : Path) → LeadsTo self.old path from.0 → LeadsTo self.old above to.0
+        ensures ok { (path above : Path) → LeadsTo self.old path from.0
+            → LeadsTo self.old above to.0
             → OnOk result (self.new ≡ moved self.old (old_name.now ∷ path) (new_name.now ∷ above)) }
-        ensures counts { (node : ℕ) → OnOk result (name_count self.new.names node ≡ name_count self.old.names node) }
+        ensures counts { (node : ℕ)
+            → OnOk result (name_count self.new.names node ≡ name_count self.old.names node) }
         ensures err { OnErr result (self.new ≡ self.old) }
     {
         match entries::child(&self.directories, from.0, old_name) {
@@ -200,7 +205,8 @@ impl Directories {
     pub fn replace(&mut self, from: NodeNo, old_name: &[u8], to: NodeNo, new_name: &[u8])
         requires within { IsTrue (has_directory self.old from.0) }
         requires under { IsTrue (has_directory self.old to.0) }
-        requires may { (path above : Path) → LeadsTo self.old path from.0 → LeadsTo self.old above to.0
+        requires may { (path above : Path) → LeadsTo self.old path from.0
+            → LeadsTo self.old above to.0
             → MayReplace self.old (old_name.now ∷ path) (new_name.now ∷ above) }
         ensures names { (path above : Path) (replaced : ℕ)
             → LeadsTo self.old path from.0 → LeadsTo self.old above to.0
@@ -208,7 +214,8 @@ impl Directories {
             → self.new ≡ moved (without_name self.old (new_name.now ∷ above) replaced)
             (old_name.now ∷ path) (new_name.now ∷ above) }
         ensures counts { (above : Path) (node : ℕ) → LeadsTo self.old above to.0
-            → name_count self.new.names node ≡ name_count (remove self.old.names (new_name.now ∷ above)) node }
+            → name_count self.new.names node
+            ≡ name_count (remove self.old.names (new_name.now ∷ above)) node }
     {
         let Some(node) = entries::child(&self.directories, from.0, old_name) else {
             unreachable!()

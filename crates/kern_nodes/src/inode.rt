@@ -53,7 +53,8 @@ pub(crate) fn put(
 ) -> Result<(), NoMemory>
     requires live { IsSome (entry inodes.old number) }
     requires fits { from + length bytes.now < 2 ^ 64 }
-    ensures ok { OnOk result (ChangesBy (λ inode. record inode { contents = put_over inode.contents from bytes.now })
+    ensures ok { OnOk result
+        (ChangesBy (λ inode. record inode { contents = put_over inode.contents from bytes.now })
         inodes.old inodes.new number) }
     ensures err { OnErr result (IsUnchanged inodes.old inodes.new) }
 {
@@ -68,7 +69,8 @@ pub(crate) fn put(
 #[tactic(auto, using(std::proofs::lemmas::Map::Steps::set_value_same))]
 pub(crate) fn resize(inodes: &mut Inodes, number: u64, len: usize) -> Result<(), NoMemory>
     requires { IsSome (entry inodes.old number) }
-    ensures ok { OnOk result (ChangesBy (λ inode. record inode { contents = resized inode.contents len })
+    ensures ok { OnOk result
+        (ChangesBy (λ inode. record inode { contents = resized inode.contents len })
         inodes.old inodes.new number) }
     ensures err { OnErr result (IsUnchanged inodes.old inodes.new) }
 {

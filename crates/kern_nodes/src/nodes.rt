@@ -209,7 +209,8 @@ impl Nodes {
         requires live { IsSome (at self.old.nodes node.0) }
         requires held { 0 < holders_of self.old node.0 }
         ensures { self.new
-            ≡ without_unkept (with_holders self.old node.0 (holders_of self.old node.0 - 1)) node.0 }
+            ≡ without_unkept (with_holders self.old node.0
+            (holders_of self.old node.0 - 1)) node.0 }
     {
         let holders = self.holders(node) - 1;
         self.set_holders(node, holders);

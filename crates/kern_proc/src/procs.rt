@@ -251,7 +251,8 @@ impl Procs {
         ensures taken { IfSome (lowest_taken marked_only (rows_at self.old pid.0)) (λ fd.
             self.new ≡ set_row self.old pid.0 fd None) }
         ensures none { IfNone (lowest_taken marked_only (rows_at self.old pid.0)) (IsNone result) }
-        ensures unchanged { IfNone (lowest_taken marked_only (rows_at self.old pid.0)) (self.new ≡ self.old) }
+        ensures unchanged { IfNone (lowest_taken marked_only (rows_at self.old pid.0)) (self.new
+            ≡ self.old) }
     {
         let Some(fd) = rows::lowest_taken(self.process(pid).rows(), marked_only) else {
             return None;
@@ -281,7 +282,8 @@ impl Procs {
     /// Goes to another working directory.
     pub fn set_cwd(&mut self, pid: Pid, node: NodeNo)
         requires { IsSome (at self.old pid.0) }
-        ensures { self.new ≡ slice_set self.old pid.0 (replace_directory (at self.old pid.0) node.0) }
+        ensures { self.new
+            ≡ slice_set self.old pid.0 (replace_directory (at self.old pid.0) node.0) }
     {
         if let Some(process) = &mut self.processes[pid.0 as usize] {
             process.set_directory(node.0);

@@ -61,10 +61,15 @@ pub fn bench_main<I: Source, O: Sink, E: Sink>(
     ensures status { Contains statuses result }
     ensures usage { result ≢ 64 }
     ensures no_salt { result ≢ 71 }
-    ensures script { result ≡ 65 → TellsFault (I.left input.old) (Tells (E.faults err.old) (E.faults err.new) (E.held err.old) (E.held err.new)) }
-    ensures io { result ≡ 74 → Rose (I.faults input.old) (I.faults input.new) ⊎ Rose (O.faults out.old) (O.faults out.new) }
+    ensures script { result ≡ 65
+        → TellsFault (I.left input.old)
+        (Tells (E.faults err.old) (E.faults err.new) (E.held err.old) (E.held err.new)) }
+    ensures io { result ≡ 74
+        → Rose (I.faults input.old) (I.faults input.new)
+        ⊎ Rose (O.faults out.old) (O.faults out.new) }
     ensures told { (failure : Option Failure) × (result ≡ exit_status failure)
-        × Tells (E.faults err.old) (E.faults err.new) (E.held err.old) (E.held err.new) (told_of failure) }
+        × Tells (E.faults err.old) (E.faults err.new) (E.held err.old) (E.held err.new)
+        (told_of failure) }
 
     // What was read and written then.
     ensures read { result ≡ 0 → I.ended input.new ≡ true }

@@ -121,7 +121,8 @@ fn line_of(before: &str, number: Option<u64>, behind: &str) -> Line
 pub fn fail<E: Sink>(err: &mut E, failure: Failure) -> u8
     requires { E.is_done err.old ≡ false }
     ensures status { result ≡ status_of failure }
-    ensures told { Tells (E.faults err.old) (E.faults err.new) (E.held err.old) (E.held err.new) (message_of failure) }
+    ensures told { Tells (E.faults err.old) (E.faults err.new) (E.held err.old) (E.held err.new)
+        (message_of failure) }
     ensures open { E.is_done err.new ≡ false }
 {
     let line = failure.message();

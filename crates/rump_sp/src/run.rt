@@ -16,7 +16,8 @@ fn call_all(alloc: Global, runner: &mut Runner, section: &Section) -> Result<Oct
     requires askable { AllByRecursion IsAskable section.now.lines }
     requires ready { (pid : Pid) × IsResting runner.old.hub pid 1 }
     requires begun { length runner.old.hub.journal ≡ 1 }
-    ensures { IfOk result (λ rows. (pid : Pid) → IsResting runner.old.hub pid 1 → AreCalled runner.old.hub pid section.now.name section.now.lines rows runner.new.hub) }
+    ensures { IfOk result (λ rows. (pid : Pid) → IsResting runner.old.hub pid 1
+        → AreCalled runner.old.hub pid section.now.name section.now.lines rows runner.new.hub) }
 {
     let mut rows = Octets::none(alloc);
     let lines = section.lines.slice();

@@ -48,7 +48,8 @@ impl Runner {
     /// Sends a frame of the guest to the server.
     fn ask(&mut self, frame: &Frame) -> Result<Reply, NoMemory>
         requires { Fits frame.now }
-        ensures { IfOk result (λ reply. (reply, self.new.hub) ≡ played self.old.hub (Event.Frame guest_connection frame.now 0)) }
+        ensures { IfOk result (λ reply. (reply, self.new.hub)
+            ≡ played self.old.hub (Event.Frame guest_connection frame.now 0)) }
     {
         let frame = self.requests.send(frame)?;
         play(&mut self.hub, Event::Frame(GUEST, frame, 0))
@@ -57,7 +58,8 @@ impl Runner {
     /// Sends the oldest frame of the server to the guest.
     fn collect(&mut self) -> Result<Frame, NoMemory>
         requires { HasAnswer self.old.hub }
-        ensures { IfOk result (λ frame. (Reply.Out frame, self.new.hub) ≡ played self.old.hub (Event.Take guest_connection)) }
+        ensures { IfOk result (λ frame. (Reply.Out frame, self.new.hub)
+            ≡ played self.old.hub (Event.Take guest_connection)) }
     {
         match self.hub.take(GUEST) {
             Reply::Out(frame) => self.answers.send(&frame),
@@ -93,7 +95,8 @@ impl Runner {
         requires proper { IsProper call.now }
         requires taken { IsTrue (is_taken call.now) }
         requires ready { IsReady self.old.hub number }
-        ensures { IfOk result (λ answer. (pid : Pid) (last : ℕ) → IsResting self.old.hub pid last → IsCalled self.old.hub pid number call.now answer self.new.hub) }
+        ensures { IfOk result (λ answer. (pid : Pid) (last : ℕ) → IsResting self.old.hub pid last
+            → IsCalled self.old.hub pid number call.now answer self.new.hub) }
     {
         let words = call.words();
         let _ = words.slice();
@@ -119,7 +122,8 @@ impl Runner {
     /// Ends the guest's connection, and with it its process.
     pub fn end(&mut self) -> Result<(), NoMemory>
         requires { (number : ℕ) × IsReady self.old.hub number }
-        ensures { OnOk result ((pid : Pid) (last : ℕ) → IsResting self.old.hub pid last → HasEnded self.old.hub pid self.new.hub) }
+        ensures { OnOk result ((pid : Pid) (last : ℕ) → IsResting self.old.hub pid last
+            → HasEnded self.old.hub pid self.new.hub) }
     {
         let Reply::Nothing = play(&mut self.hub, Event::Ended(GUEST, Finish::Clean))? else {
             unreachable!();

@@ -48,13 +48,16 @@ pub fn stdio_main<I: Source, S: Salt, O: Sink, E: Sink>(
         (record { left = I.left input.new; passed = I.passed input.new; held = O.held out.new; drawn = S.drawn salt.new }) end
         × HasEndCause end (I.ended input.new) (I.faults input.old) (I.faults input.new)
         (O.faults out.old) (O.faults out.new) (S.faults salt.old) (S.faults salt.new)
-        × Tells (E.faults err.old) (E.faults err.new) (E.held err.old) (E.held err.new) (end_message end) }
+        × Tells (E.faults err.old) (E.faults err.new) (E.held err.old) (E.held err.new)
+        (end_message end) }
 
     // Which status comes, and when.
     ensures status { Contains statuses result }
     ensures usage { result ≢ 64 }
     ensures no_salt { result ≡ 71 → Rose (S.faults salt.old) (S.faults salt.new) }
-    ensures io { result ≡ 74 → Rose (I.faults input.old) (I.faults input.new) ⊎ Rose (O.faults out.old) (O.faults out.new) }
+    ensures io { result ≡ 74
+        → Rose (I.faults input.old) (I.faults input.new)
+        ⊎ Rose (O.faults out.old) (O.faults out.new) }
     ensures read { result ≡ 0 → I.ended input.new ≡ true }
 
     // What stays: by now no frame takes a salt.

@@ -40,30 +40,40 @@ pub fn rump_main<W: AsStr, S: Salt, I: Source, O: Sink, E: Sink>(
     ensures status { Contains statuses result }
     ensures usage { result ≡ 64 → asked_of (map W.text words.now) ≡ None }
     ensures no_salt { result ≡ 71 → Rose (S.faults salt.old) (S.faults salt.new) }
-    ensures io { result ≡ 74 → Rose (I.faults input.old) (I.faults input.new) ⊎ Rose (O.faults out.old) (O.faults out.new) }
+    ensures io { result ≡ 74
+        → Rose (I.faults input.old) (I.faults input.new)
+        ⊎ Rose (O.faults out.old) (O.faults out.new) }
     ensures read { result ≡ 0 → I.ended input.new ≡ true }
     ensures told { (failure : Option Failure) × (result ≡ exit_status failure)
-        × Tells (E.faults err.old) (E.faults err.new) (E.held err.old) (E.held err.new) (told_of failure) }
+        × Tells (E.faults err.old) (E.faults err.new) (E.held err.old) (E.held err.new)
+        (told_of failure) }
 
     // What a script's guests do, and what is written of it; it takes no salt.
     ensures no_salt_needed { AsksFor (map W.text words.now) Asked.Bench → result ≢ 71 }
     ensures script { AsksFor (map W.text words.now) Asked.Bench → result ≡ 65
-        → TellsFault (I.left input.old) (Tells (E.faults err.old) (E.faults err.new) (E.held err.old) (E.held err.new)) }
-    ensures rows { AsksFor (map W.text words.now) Asked.Bench → result ≡ 0 → Prints (I.left input.old) (O.held out.old) (O.held out.new) }
-    ensures other { AsksFor (map W.text words.now) Asked.Bench → result ≢ 0 → PrintsFront (I.left input.old) (O.held out.old) (O.held out.new) }
-    ensures early { AsksFor (map W.text words.now) Asked.Bench → I.ended input.new ≡ false → Keeps (O.held out.old) (O.held out.new) }
+        → TellsFault (I.left input.old)
+        (Tells (E.faults err.old) (E.faults err.new) (E.held err.old) (E.held err.new)) }
+    ensures rows { AsksFor (map W.text words.now) Asked.Bench → result ≡ 0
+        → Prints (I.left input.old) (O.held out.old) (O.held out.new) }
+    ensures other { AsksFor (map W.text words.now) Asked.Bench → result ≢ 0
+        → PrintsFront (I.left input.old) (O.held out.old) (O.held out.new) }
+    ensures early { AsksFor (map W.text words.now) Asked.Bench → I.ended input.new ≡ false
+        → Keeps (O.held out.old) (O.held out.new) }
 
     // How one connection is served.
-    ensures stdio { AsksFor (map W.text words.now) Asked.Stdio → (end : StdioEnd) × (result ≡ end_status end)
+    ensures stdio { AsksFor (map W.text words.now) Asked.Stdio → (end : StdioEnd)
+        × (result ≡ end_status end)
         × IsServed
         (record { left = I.left input.old; passed = I.passed input.old; held = O.held out.old; drawn = S.drawn salt.old })
         (record { left = I.left input.new; passed = I.passed input.new; held = O.held out.new; drawn = S.drawn salt.new }) end
         × HasEndCause end (I.ended input.new) (I.faults input.old) (I.faults input.new)
         (O.faults out.old) (O.faults out.new) (S.faults salt.old) (S.faults salt.new)
-        × Tells (E.faults err.old) (E.faults err.new) (E.held err.old) (E.held err.new) (end_message end) }
+        × Tells (E.faults err.old) (E.faults err.new) (E.held err.old) (E.held err.new)
+        (end_message end) }
 
     // Where the words are wrong, nothing is read or written.
-    ensures wrong { asked_of (map W.text words.now) ≡ None → ((result ≡ 64) ⊎ (result ≡ 75)) × (input.new ≡ input.old) × (out.new ≡ out.old) }
+    ensures wrong { asked_of (map W.text words.now) ≡ None → ((result ≡ 64) ⊎ (result ≡ 75))
+        × (input.new ≡ input.old) × (out.new ≡ out.old) }
 
     // What stays: by now no frame takes a salt.
     ensures salt { salt.new ≡ salt.old }

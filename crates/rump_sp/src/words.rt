@@ -59,7 +59,8 @@ fn bench_command<'a>(alloc: Global) -> Result<Command<'a>, NoMemory>
 #[tactic(auto, unfolding(crate::specs::Words::takes_options))]
 fn takes_options<'a, W: AsStr>(command: Command<'a>, options: &'a [W]) -> Result<bool, NoMemory>
     requires { is_simple_and_free (app_of command) ≡ true }
-    ensures { IfOk result (λ taken. taken ≡ takes_options (app_of command.entry) (map W.text options.entry.now)) }
+    ensures { IfOk result (λ taken. taken
+        ≡ takes_options (app_of command.entry) (map W.text options.entry.now)) }
 {
     let error = match command.try_get_matches_from(options) {
         Ok(_matches) => return Ok(true),

@@ -23,7 +23,7 @@ use Rattle.sp_base.proofs.TableLaws.{at_within, lowest_unused_is}
 use Rattle.kern_model.proofs.Lemmas.{each_is, call_keeps, exit_ends, journal_tables}
 use Rattle.sp_hub.specs.Step.{nothing_read}
 use Rattle.sp_hub.specs.Verdict.{is_taken}
-use Rattle.sp_hub.proofs.Journals.{entry, state_after-push, after_entry-entry}
+use Rattle.kern_model.proofs.Journals.{entry, state_after-push, after_entry-entry}
 
 -- ---- tables
 

@@ -1,4 +1,3 @@
-pub mod Journals
 pub mod KernelLaws
 pub mod Performs
 pub mod Lists

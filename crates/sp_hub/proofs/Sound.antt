@@ -15,7 +15,7 @@ use Rattle.sp_hub.specs.declared.connection.Connection.{Connection}
 use Rattle.sp_hub.specs.Connection.{fresh_connection}
 use Rattle.sp_hub.specs.Machine.{Machine}
 use Rattle.sp_hub.specs.Sound.{IsConnection, Spends, IsSpent, IsSound}
-use Rattle.sp_hub.proofs.Journals.{legal_push}
+use Rattle.kern_model.proofs.Journals.{legal_push}
 use Rattle.sp_hub.proofs.Lists.{all_map, all_push, set_same, set_other, set_cases, same_or_not, push_cases, push_front}
 
 -- the process of this number is live

@@ -36,7 +36,7 @@ use Rattle.sp_hub.specs.Verdict.{is_taken, verdict_of}
 use Rattle.sp_hub.specs.Sound.{IsReached, IsConnection, NotOpen, Spends}
 use Rattle.sp_hub.proofs.Calls.{not_open_none, not_open_push, not_open_remove, own_none, own_push, own_remove, open_at, gone_at, reached_remove, reached_fresh}
 use Rattle.sp_hub.proofs.Lists.{all_at, all_remove, all_push, all_map, all_none}
-use Rattle.sp_hub.proofs.Journals.{follows_by}
+use Rattle.kern_model.proofs.Journals.{follows_by}
 use Rattle.sp_hub.proofs.KernelLaws.{Nexts, nexts, attach_does, call_live, exit_live, live_put, put_live, taken_fits}
 use Rattle.sp_hub.proofs.Sound.{IsProcess, IsAbout, Adds, Keeps}
 use Rattle.sp_hub.proofs.Verdicts.{Attaches, attaches, Opens, opens, refuses}

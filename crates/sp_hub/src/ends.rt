@@ -17,7 +17,9 @@ use sp_base::{Items, NoMemory, ReqNo};
 
 /// Hands out the oldest queued frame.
 pub fn take(connection: &mut Connection) -> Reply
-    ensures { (journal : List Entry) → record { reply = result; journal = journal; connection = connection.new } ≡ take_step journal connection.old }
+    ensures { (journal : List Entry)
+        → record { reply = result; journal = journal; connection = connection.new }
+        ≡ take_step journal connection.old }
 {
     match connection.condition {
         Condition::Closed => Reply::Closed,
@@ -36,8 +38,10 @@ pub fn take(connection: &mut Connection) -> Reply
 
 /// Ends the process that a connection still has; on want of memory nothing changes.
 pub fn exit(kernel: &mut Kernel, connection: &Connection) -> Result<(), NoMemory>
-    requires { IfSome (process_in connection.now.condition) (λ pid. IsSome (at (state_after kernel.old.items).processes pid.0)) }
-    ensures ok { OnOk result (kernel.new.items ≡ exit_of kernel.old.items connection.now (process_in connection.now.condition)) }
+    requires { IfSome (process_in connection.now.condition)
+        (λ pid. IsSome (at (state_after kernel.old.items).processes pid.0)) }
+    ensures ok { OnOk result (kernel.new.items
+        ≡ exit_of kernel.old.items connection.now (process_in connection.now.condition)) }
     ensures err { OnErr result (kernel.new.items ≡ kernel.old.items) }
 {
     let Some(pid) = connection.condition.process() else {
@@ -53,9 +57,12 @@ pub fn exit(kernel: &mut Kernel, connection: &Connection) -> Result<(), NoMemory
 
 /// Closes a connection: its process exits, and its calls and frames are dropped.
 fn close(kernel: &mut Kernel, connection: &mut Connection) -> Reply
-    requires live { IfSome (process_in connection.old.condition) (λ pid. IsSome (at (state_after kernel.old.items).processes pid.0)) }
-    ensures step { StepsOrStays end_takes (close_step kernel.old.items connection.old) kernel.old.items connection.old result kernel.new.items connection.new }
-    ensures fit { AllByRecursion Fits connection.old.queue → AllByRecursion Fits connection.new.queue }
+    requires live { IfSome (process_in connection.old.condition)
+        (λ pid. IsSome (at (state_after kernel.old.items).processes pid.0)) }
+    ensures step { StepsOrStays end_takes
+        (close_step kernel.old.items connection.old) kernel.old.items connection.old result kernel.new.items connection.new }
+    ensures fit { AllByRecursion Fits connection.old.queue
+        → AllByRecursion Fits connection.new.queue }
 {
     if exit(kernel, connection).is_err() {
         return Reply::NoMemory;
@@ -66,9 +73,12 @@ fn close(kernel: &mut Kernel, connection: &mut Connection) -> Reply
 
 /// A connection's input ends: at bytes that are no frame a live one drains; else the connection is over.
 pub fn end(kernel: &mut Kernel, connection: &mut Connection, finish: Finish) -> Reply
-    requires live { IfSome (process_in connection.old.condition) (λ pid. IsSome (at (state_after kernel.old.items).processes pid.0)) }
-    ensures step { StepsOrStays end_takes (end_step kernel.old.items connection.old finish) kernel.old.items connection.old result kernel.new.items connection.new }
-    ensures fit { AllByRecursion Fits connection.old.queue → AllByRecursion Fits connection.new.queue }
+    requires live { IfSome (process_in connection.old.condition)
+        (λ pid. IsSome (at (state_after kernel.old.items).processes pid.0)) }
+    ensures step { StepsOrStays end_takes
+        (end_step kernel.old.items connection.old finish) kernel.old.items connection.old result kernel.new.items connection.new }
+    ensures fit { AllByRecursion Fits connection.old.queue
+        → AllByRecursion Fits connection.new.queue }
 {
     match (connection.condition, finish) {
         (Condition::Closed, _) => Reply::Closed,

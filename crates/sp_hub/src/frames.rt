@@ -33,8 +33,12 @@ fn hello(number: ReqNo, pid: Pid) -> Frame
 
 /// Performs a handshake: makes the connection's process and queues the response.
 fn attach(kernel: &mut Kernel, connection: &mut Connection, frame: &Frame) -> Reply
-    ensures step { StepsOrStays frame_takes (attach_step kernel.old.items connection.old frame.now (next_entry kernel.old.items no_process (Request connection.old.no frame.now.number) op.Attach nothing_read)) kernel.old.items connection.old result kernel.new.items connection.new }
-    ensures fit { AllByRecursion Fits connection.old.queue → AllByRecursion Fits connection.new.queue }
+    ensures step { StepsOrStays frame_takes
+        (attach_step kernel.old.items connection.old frame.now
+        (next_entry kernel.old.items no_process
+        (Request connection.old.no frame.now.number) op.Attach nothing_read)) kernel.old.items connection.old result kernel.new.items connection.new }
+    ensures fit { AllByRecursion Fits connection.old.queue
+        → AllByRecursion Fits connection.new.queue }
 {
     let number = frame.number;
     let alloc = kernel.alloc();
@@ -69,7 +73,9 @@ fn attach(kernel: &mut Kernel, connection: &mut Connection, frame: &Frame) -> Re
 
 /// Opens a call, whatever the journal.
 fn open(connection: &mut Connection, frame: &Frame, call: Call) -> Reply
-    ensures step { (journal : List Entry) → StepsOrStays frame_takes (open_step journal connection.old frame.now call) journal connection.old result journal connection.new }
+    ensures step { (journal : List Entry)
+        → StepsOrStays frame_takes
+        (open_step journal connection.old frame.now call) journal connection.old result journal connection.new }
     ensures queue { connection.new.queue ≡ connection.old.queue }
 {
     let number = frame.number;
@@ -84,9 +90,12 @@ fn open(connection: &mut Connection, frame: &Frame, call: Call) -> Reply
 
 /// A frame comes over a connection.
 pub fn frame(kernel: &mut Kernel, connection: &mut Connection, frame: &Frame) -> Reply
-    requires live { IfSome (process_in connection.old.condition) (λ pid. IsSome (at (state_after kernel.old.items).processes pid.0)) }
-    ensures step { StepsOrStays frame_takes (frame_step kernel.old.items connection.old frame.now) kernel.old.items connection.old result kernel.new.items connection.new }
-    ensures fit { AllByRecursion Fits connection.old.queue → AllByRecursion Fits connection.new.queue }
+    requires live { IfSome (process_in connection.old.condition)
+        (λ pid. IsSome (at (state_after kernel.old.items).processes pid.0)) }
+    ensures step { StepsOrStays frame_takes
+        (frame_step kernel.old.items connection.old frame.now) kernel.old.items connection.old result kernel.new.items connection.new }
+    ensures fit { AllByRecursion Fits connection.old.queue
+        → AllByRecursion Fits connection.new.queue }
 {
     match verdict::on_frame(kernel, connection, frame) {
         Verdict::Closed => Reply::Closed,

@@ -70,7 +70,8 @@ fn any_speaks(connections: &[Connection]) -> bool
 
 /// Adds a connection that was just opened.
 fn add(alloc: Global, connections: &mut Vec<Connection>, no: ConnNo) -> Result<(), NoMemory>
-    ensures ok { OnOk result (connections.new.items ≡ connections.old.items ++ fresh_connection no ∷ []) }
+    ensures ok { OnOk result (connections.new.items
+        ≡ connections.old.items ++ fresh_connection no ∷ []) }
     ensures err { OnErr result (connections.new.items ≡ connections.old.items) }
 {
     connections.push(Connection::fresh(alloc, no))?;
@@ -80,7 +81,10 @@ fn add(alloc: Global, connections: &mut Vec<Connection>, no: ConnNo) -> Result<(
 /// A connection opens.
 fn open_in(kernel: &Kernel, connections: &mut Vec<Connection>, no: ConnNo) -> Reply
     requires sound { IsSound (running kernel.now.items connections.old.items) }
-    ensures plays { PlaysOrStays opened_takes (opened (running kernel.now.items connections.old.items) no) (running kernel.now.items connections.old.items) result (running kernel.now.items connections.new.items) }
+    ensures plays { PlaysOrStays opened_takes
+        (opened (running kernel.now.items connections.old.items) no)
+        (running kernel.now.items connections.old.items) result
+        (running kernel.now.items connections.new.items) }
     ensures sound { IsSound (running kernel.now.items connections.new.items) }
 {
     if !is_above(connections, no) {
@@ -100,7 +104,11 @@ fn frame_in(
     frame: &Frame,
 ) -> Reply
     requires sound { IsSound (running kernel.old.items connections.old.items) }
-    ensures plays { PlaysOrStays frame_takes (on_connection (running kernel.old.items connections.old.items) no Reply.Closed (λ journal x. frame_step journal x frame.now)) (running kernel.old.items connections.old.items) result (running kernel.new.items connections.new.items) }
+    ensures plays { PlaysOrStays frame_takes
+        (on_connection (running kernel.old.items connections.old.items) no Reply.Closed
+        (λ journal x. frame_step journal x frame.now))
+        (running kernel.old.items connections.old.items) result
+        (running kernel.new.items connections.new.items) }
     ensures sound { IsSound (running kernel.new.items connections.new.items) }
 {
     let Some(place) = place_of(connections, no) else {
@@ -118,7 +126,11 @@ fn work_in(
     number: ReqNo,
 ) -> Reply
     requires sound { IsSound (running kernel.old.items connections.old.items) }
-    ensures plays { PlaysOrStays work_takes (on_connection (running kernel.old.items connections.old.items) no Reply.Nothing (λ journal x. work_step journal x number)) (running kernel.old.items connections.old.items) result (running kernel.new.items connections.new.items) }
+    ensures plays { PlaysOrStays work_takes
+        (on_connection (running kernel.old.items connections.old.items) no Reply.Nothing
+        (λ journal x. work_step journal x number))
+        (running kernel.old.items connections.old.items) result
+        (running kernel.new.items connections.new.items) }
     ensures sound { IsSound (running kernel.new.items connections.new.items) }
 {
     let Some(place) = place_of(connections, no) else {
@@ -136,7 +148,11 @@ fn end_in(
     finish: Finish,
 ) -> Reply
     requires sound { IsSound (running kernel.old.items connections.old.items) }
-    ensures plays { PlaysOrStays end_takes (on_connection (running kernel.old.items connections.old.items) no Reply.Closed (λ journal x. end_step journal x finish)) (running kernel.old.items connections.old.items) result (running kernel.new.items connections.new.items) }
+    ensures plays { PlaysOrStays end_takes
+        (on_connection (running kernel.old.items connections.old.items) no Reply.Closed
+        (λ journal x. end_step journal x finish))
+        (running kernel.old.items connections.old.items) result
+        (running kernel.new.items connections.new.items) }
     ensures sound { IsSound (running kernel.new.items connections.new.items) }
 {
     let Some(place) = place_of(connections, no) else {
@@ -148,8 +164,11 @@ fn end_in(
 
 /// The oldest queued frame of a connection is handed out, whatever the journal.
 fn take_in(connections: &mut Vec<Connection>, no: ConnNo) -> Reply
-    ensures plays { (journal : List Entry) → (result, running journal connections.new.items) ≡ on_connection (running journal connections.old.items) no Reply.Closed take_step }
-    ensures sound { (journal : List Entry) → IsSound (running journal connections.old.items) → IsSound (running journal connections.new.items) }
+    ensures plays { (journal : List Entry)
+        → (result, running journal connections.new.items)
+        ≡ on_connection (running journal connections.old.items) no Reply.Closed take_step }
+    ensures sound { (journal : List Entry) → IsSound (running journal connections.old.items)
+        → IsSound (running journal connections.new.items) }
 {
     let Some(place) = place_of(connections, no) else {
         return Reply::Closed;

@@ -36,7 +36,8 @@ pub fn act(kernel: &mut Kernel, pid: Pid, who: Who, op: Op, ins: Ins) -> Acted
     requires process { FitsPid (state_after kernel.old.items) pid.0 op }
     requires ins { FitsIns op ins }
     ensures done { (answer : Answer) → result ≡ Acted.Done answer
-        → Performs kernel.old.items (next_entry kernel.old.items pid who op ins) answer kernel.new.items }
+        → Performs kernel.old.items
+        (next_entry kernel.old.items pid who op ins) answer kernel.new.items }
     ensures waits { result ≡ Acted.NotReady
         → (next_entry kernel.old.items pid who op ins ≡ None) × (kernel.new ≡ kernel.old) }
     ensures no_memory { result ≡ Acted.NoMemory → kernel.new ≡ kernel.old }

@@ -58,11 +58,14 @@ pub fn last_error(number: ReqNo, kind: Option<u16>) -> Frame
 ///
 /// The room for the error is taken before the exit is performed.
 pub fn drain(kernel: &mut Kernel, connection: &mut Connection, reply: Reply, error: Frame) -> Reply
-    requires live { IfSome (process_in connection.old.condition) (λ pid. IsSome (at (state_after kernel.old.items).processes pid.0)) }
+    requires live { IfSome (process_in connection.old.condition)
+        (λ pid. IsSome (at (state_after kernel.old.items).processes pid.0)) }
     requires fits { Fits error }
     ensures step { (takes : Reply → Bool) → IsTrue (takes reply)
-        → StepsOrStays takes (drain_step reply kernel.old.items connection.old error) kernel.old.items connection.old result kernel.new.items connection.new }
-    ensures fit { AllByRecursion Fits connection.old.queue → AllByRecursion Fits connection.new.queue }
+        → StepsOrStays takes
+        (drain_step reply kernel.old.items connection.old error) kernel.old.items connection.old result kernel.new.items connection.new }
+    ensures fit { AllByRecursion Fits connection.old.queue
+        → AllByRecursion Fits connection.new.queue }
 {
     let Some(queue) = take_room(kernel.alloc(), &mut connection.queue) else {
         return Reply::NoMemory;
@@ -78,8 +81,11 @@ pub fn drain(kernel: &mut Kernel, connection: &mut Connection, reply: Reply, err
 
 /// Refuses a request: its error is queued and its number is used up, whatever the journal.
 pub fn refuse(kernel: &Kernel, connection: &mut Connection, frame: &Frame, why: SpError) -> Reply
-    ensures step { StepsOrStays frame_takes (refuse_step kernel.now.items connection.old frame.now (answered_kind frame.now.body) why) kernel.now.items connection.old result kernel.now.items connection.new }
-    ensures fit { AllByRecursion Fits connection.old.queue → AllByRecursion Fits connection.new.queue }
+    ensures step { StepsOrStays frame_takes
+        (refuse_step kernel.now.items connection.old frame.now
+        (answered_kind frame.now.body) why) kernel.now.items connection.old result kernel.now.items connection.new }
+    ensures fit { AllByRecursion Fits connection.old.queue
+        → AllByRecursion Fits connection.new.queue }
 {
     let Some(kind) = answered_kind(&frame.body) else {
         return Reply::Refused(why);

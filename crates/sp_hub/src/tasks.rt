@@ -7,7 +7,8 @@ use sp_base::ReqNo;
 
 /// The lowest number above a number, with one call more.
 fn lower(lowest: Option<ReqNo>, above: ReqNo, number: ReqNo) -> Option<ReqNo>
-    ensures { (calls : List OpenCall) (t : OpenCall) → t.number ≡ number → IsLowest calls above lowest → IsLowest (calls ++ t ∷ []) above result }
+    ensures { (calls : List OpenCall) (t : OpenCall) → t.number ≡ number
+        → IsLowest calls above lowest → IsLowest (calls ++ t ∷ []) above result }
 {
     if number.0 <= above.0 {
         return lowest;

@@ -32,8 +32,11 @@ fn perform(kernel: &mut Kernel, connection: &mut Connection, place: usize, pid: 
     requires place { place < length connection.old.calls }
     requires live { IsSome (at (state_after kernel.old.items).processes pid.0) }
     requires taken { AllByRecursion (λ t. IsTrue (is_taken t.call)) connection.old.calls }
-    ensures step { StepsOrStays work_takes (work_call kernel.old.items connection.old place (slice_get connection.old.calls place) (Some pid)) kernel.old.items connection.old result kernel.new.items connection.new }
-    ensures fit { AllByRecursion Fits connection.old.queue → AllByRecursion Fits connection.new.queue }
+    ensures step { StepsOrStays work_takes
+        (work_call kernel.old.items connection.old place (slice_get connection.old.calls place)
+        (Some pid)) kernel.old.items connection.old result kernel.new.items connection.new }
+    ensures fit { AllByRecursion Fits connection.old.queue
+        → AllByRecursion Fits connection.new.queue }
 {
     let alloc = kernel.alloc();
     let Some(queue) = take_room(alloc, &mut connection.queue) else {
@@ -62,10 +65,13 @@ fn perform(kernel: &mut Kernel, connection: &mut Connection, place: usize, pid: 
 
 /// Works an open call, for the process of its connection.
 pub fn work(kernel: &mut Kernel, connection: &mut Connection, number: ReqNo) -> Reply
-    requires live { IfSome (process_in connection.old.condition) (λ pid. IsSome (at (state_after kernel.old.items).processes pid.0)) }
+    requires live { IfSome (process_in connection.old.condition)
+        (λ pid. IsSome (at (state_after kernel.old.items).processes pid.0)) }
     requires taken { AllByRecursion (λ t. IsTrue (is_taken t.call)) connection.old.calls }
-    ensures step { StepsOrStays work_takes (work_step kernel.old.items connection.old number) kernel.old.items connection.old result kernel.new.items connection.new }
-    ensures fit { AllByRecursion Fits connection.old.queue → AllByRecursion Fits connection.new.queue }
+    ensures step { StepsOrStays work_takes
+        (work_step kernel.old.items connection.old number) kernel.old.items connection.old result kernel.new.items connection.new }
+    ensures fit { AllByRecursion Fits connection.old.queue
+        → AllByRecursion Fits connection.new.queue }
 {
     let Some(place) = connection.place_of_call(number) else {
         return Reply::Nothing;

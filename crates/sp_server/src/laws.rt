@@ -15,15 +15,18 @@ ghost use Rattle.sp_server.specs.Stdio.{IsStdioOut, is_decided, Ends, Serves};
 /// The input and the salts decide a run's end and what is written, however much of the input is taken; a fault of the outside and want of
 /// memory excepted.
 pub fn one_end()
-    ensures end { (a b : StdioEnd) (input salts text more : List ℕ) → IsBytes input → is_decided a ≡ true → is_decided b ≡ true
+    ensures end { (a b : StdioEnd) (input salts text more : List ℕ) → IsBytes input
+        → is_decided a ≡ true → is_decided b ≡ true
         → Ends a input salts text → Ends b input salts more → a ≡ b }
-    ensures text { (a b : StdioEnd) (input salts text more : List ℕ) → IsBytes input → is_decided a ≡ true → is_decided b ≡ true
+    ensures text { (a b : StdioEnd) (input salts text more : List ℕ) → IsBytes input
+        → is_decided a ≡ true → is_decided b ≡ true
         → Ends a input salts text → Ends b input salts more → text ≡ more }
 {}
 
 /// What is written is the banner, and then the spellings of the frames that a run of the server's machine hands out.
 pub fn one_run()
-    ensures { (input salts : List ℕ) (how : Finish) (offset : ℕ) (text : List ℕ) → IsStdioOut input salts how offset text
+    ensures { (input salts : List ℕ) (how : Finish) (offset : ℕ) (text : List ℕ)
+        → IsStdioOut input salts how offset text
         → (exchanges : List Exchange) × (last : Machine) × Runs fresh_machine exchanges last
         × (text ≡ banner ++ flat_map spelling (handed_out exchanges)) }
 {}
@@ -31,6 +34,8 @@ pub fn one_run()
 /// Bytes that come behind a frame's fault, or behind more than is looked at, change nothing.
 pub fn later_bytes()
     ensures bad { (offset : ℕ) (taken later salts text : List ℕ) → IsBytes later
-        → Serves (end.BadAt offset) taken salts text → Serves (end.BadAt offset) (taken ++ later) salts text }
-    ensures much { (taken later salts text : List ℕ) → Serves end.TooMuch taken salts text → Serves end.TooMuch (taken ++ later) salts text }
+        → Serves (end.BadAt offset) taken salts text
+        → Serves (end.BadAt offset) (taken ++ later) salts text }
+    ensures much { (taken later salts text : List ℕ) → Serves end.TooMuch taken salts text
+        → Serves end.TooMuch (taken ++ later) salts text }
 {}

@@ -22,7 +22,9 @@ fn was_performed(reply: Reply) -> Result<bool, NoMemory>
 ///
 /// Want of memory leaves the calls that weren't performed open.
 fn work_round(hub: &mut Hub, no: ConnNo) -> Result<bool, NoMemory>
-    ensures { IfOk result (λ again. (numbers : List ReqNo) × AreOpen hub.old no (record { 0 = 0 }) numbers × (hub.new ≡ worked hub.old no numbers) × (again ≡ performs hub.old no numbers)) }
+    ensures { IfOk result (λ again. (numbers : List ReqNo)
+        × AreOpen hub.old no (record { 0 = 0 }) numbers × (hub.new ≡ worked hub.old no numbers)
+        × (again ≡ performs hub.old no numbers)) }
 {
     let mut above = ReqNo(0);
     let mut performed = false;
@@ -38,7 +40,8 @@ fn work_round(hub: &mut Hub, no: ConnNo) -> Result<bool, NoMemory>
 ///
 /// Want of memory leaves the calls that weren't performed open.
 pub fn work_all(hub: &mut Hub, no: ConnNo) -> Result<(), NoMemory>
-    ensures { OnOk result ((rounds : List (List ReqNo)) × AreRounds hub.old no true rounds hub.new) }
+    ensures { OnOk result ((rounds : List (List ReqNo))
+        × AreRounds hub.old no true rounds hub.new) }
 {
     let mut again = true;
     while again {
@@ -71,7 +74,8 @@ fn hand_out_one(
 ///
 /// Want of memory loses the frames that were taken, and leaves the others queued.
 pub fn hand_out(alloc: Global, hub: &mut Hub, no: ConnNo, text: &mut Octets) -> Result<(), NoMemory>
-    ensures { OnOk result ((frames : List Frame) × HandsOut hub.old no frames hub.new × (text.new ≡ text.old ++ flat_map spelling frames)) }
+    ensures { OnOk result ((frames : List Frame) × HandsOut hub.old no frames hub.new
+        × (text.new ≡ text.old ++ flat_map spelling frames)) }
 {
     let mut more = true;
     while more {

@@ -74,8 +74,10 @@ fn met_fault(fed: Result<(), FrameFault>) -> Result<Option<FrameFault>, NoMemory
 /// Takes all that is queued for the connection, and writes it.
 fn put_queued<O: Sink>(alloc: Global, hub: &mut Hub, sink: &mut O) -> Result<(), Stop>
     requires { O.is_done sink.old ≡ false }
-    ensures ok { OnOk result ((frames : List Frame) × HandsOut hub.old connection frames hub.new × Appends (O.held sink.old) (O.held sink.new) (flat_map spelling frames)) }
-    ensures err { OnErr result ((text : List ℕ) × Appends (O.held sink.old) (O.held sink.new) text × IsQueueFront hub.old text) }
+    ensures ok { OnOk result ((frames : List Frame) × HandsOut hub.old connection frames hub.new
+        × Appends (O.held sink.old) (O.held sink.new) (flat_map spelling frames)) }
+    ensures err { OnErr result ((text : List ℕ) × Appends (O.held sink.old) (O.held sink.new) text
+        × IsQueueFront hub.old text) }
     ensures cause { HasStopCause (O.faults sink.old) (O.faults sink.new) result }
     ensures open { O.is_done sink.new ≡ false }
 {
@@ -88,8 +90,10 @@ fn put_queued<O: Sink>(alloc: Global, hub: &mut Hub, sink: &mut O) -> Result<(),
 /// A frame comes: it happens to the server, its open calls are worked, and what is queued then is written.
 fn answer<O: Sink>(alloc: Global, hub: &mut Hub, frame: Frame, sink: &mut O) -> Result<(), Stop>
     requires { O.is_done sink.old ≡ false }
-    ensures ok { OnOk result ((text : List ℕ) × AnswersFrame hub.old frame 0 text hub.new × Appends (O.held sink.old) (O.held sink.new) text) }
-    ensures err { OnErr result ((text : List ℕ) × Appends (O.held sink.old) (O.held sink.new) text × IsAnswerFront hub.old frame text) }
+    ensures ok { OnOk result ((text : List ℕ) × AnswersFrame hub.old frame 0 text hub.new
+        × Appends (O.held sink.old) (O.held sink.new) text) }
+    ensures err { OnErr result ((text : List ℕ) × Appends (O.held sink.old) (O.held sink.new) text
+        × IsAnswerFront hub.old frame text) }
     ensures cause { HasStopCause (O.faults sink.old) (O.faults sink.new) result }
     ensures open { O.is_done sink.new ≡ false }
 {
@@ -107,8 +111,10 @@ fn answer_ready<O: Sink>(
 ) -> Result<(), Stop>
     requires { O.is_done sink.old ≡ false }
     ensures ok { OnOk result ((input before : List ℕ) → IsBehind framer.old hub.old input before
-        → (text : List ℕ) × Appends (O.held sink.old) (O.held sink.new) text × IsAnswered input [] (before ++ text) framer.new.rest hub.new) }
-    ensures err { OnErr result ((input before : List ℕ) → IsBehind framer.old hub.old input before → IsPartBehind input before (O.held sink.old) (O.held sink.new)) }
+        → (text : List ℕ) × Appends (O.held sink.old) (O.held sink.new) text
+        × IsAnswered input [] (before ++ text) framer.new.rest hub.new) }
+    ensures err { OnErr result ((input before : List ℕ) → IsBehind framer.old hub.old input before
+        → IsPartBehind input before (O.held sink.old) (O.held sink.new)) }
     ensures ready { OnOk result (framer.new.ready ≡ []) }
     ensures rest { OnOk result (framer.new.rest ≡ framer.old.rest) }
     ensures stop { OnOk result (framer.new.stop ≡ framer.old.stop) }
@@ -163,9 +169,14 @@ impl Session {
     /// The input ends: that happens to the server, and what is queued then is written.
     fn close<O: Sink>(&mut self, how: Finish, sink: &mut O) -> Result<(), Stop>
         requires { O.is_done sink.old ≡ false }
-        ensures ok { OnOk result ((input before rest : List ℕ) (offset : ℕ) → IsAnswered input [] before rest self.old.hub → EndsAs how rest → offset + length rest ≡ length input
-            → (text : List ℕ) × Appends (O.held sink.old) (O.held sink.new) text × IsStdioOut input [] how offset (before ++ text)) }
-        ensures err { OnErr result ((input before rest : List ℕ) (offset : ℕ) → IsAnswered input [] before rest self.old.hub → EndsAs how rest → offset + length rest ≡ length input
+        ensures ok { OnOk result ((input before rest : List ℕ) (offset : ℕ)
+            → IsAnswered input [] before rest self.old.hub → EndsAs how rest
+            → offset + length rest ≡ length input
+            → (text : List ℕ) × Appends (O.held sink.old) (O.held sink.new) text
+            × IsStdioOut input [] how offset (before ++ text)) }
+        ensures err { OnErr result ((input before rest : List ℕ) (offset : ℕ)
+            → IsAnswered input [] before rest self.old.hub → EndsAs how rest
+            → offset + length rest ≡ length input
             → IsPartBehind input before (O.held sink.old) (O.held sink.new)) }
         ensures cause { HasStopCause (O.faults sink.old) (O.faults sink.new) result }
         ensures open { O.is_done sink.new ≡ false }
@@ -177,11 +188,14 @@ impl Session {
     /// The input is no frame from here on; gives the offset of the first byte that is none.
     fn break_off<O: Sink>(&mut self, fault: FrameFault, sink: &mut O) -> Result<u64, Stop>
         requires open { O.is_done sink.old ≡ false }
-        requires at { (input : List ℕ) × (before : List ℕ) × IsAt self.old (Some fault) input before }
-        ensures ok { IfOk result (λ offset. (input before : List ℕ) → IsAt self.old (Some fault) input before
+        requires at { (input : List ℕ) × (before : List ℕ)
+            × IsAt self.old (Some fault) input before }
+        ensures ok { IfOk result (λ offset. (input before : List ℕ)
+            → IsAt self.old (Some fault) input before
             → (text : List ℕ) × Appends (O.held sink.old) (O.held sink.new) text
             × IsStdioOut input [] (Finish.Bad fault) offset (before ++ text)) }
-        ensures err { OnErr result ((input before : List ℕ) → IsAt self.old (Some fault) input before
+        ensures err { OnErr result ((input before : List ℕ)
+            → IsAt self.old (Some fault) input before
             → IsPartBehind input before (O.held sink.old) (O.held sink.new)) }
         ensures cause { HasStopCause (O.faults sink.old) (O.faults sink.new) result }
         ensures open { O.is_done sink.new ≡ false }
@@ -196,8 +210,10 @@ impl Session {
         requires open { O.is_done sink.old ≡ false }
         requires few { self.old.fed + length bytes.now ≤ most_input }
         ensures ok { IfOk result (λ fault. (input before : List ℕ) → IsAt self.old None input before
-            → (text : List ℕ) × Appends (O.held sink.old) (O.held sink.new) text × IsAt self.new fault (input ++ bytes.now) (before ++ text)) }
-        ensures err { OnErr result ((input before : List ℕ) → IsAt self.old None input before → IsPartBehind (input ++ bytes.now) before (O.held sink.old) (O.held sink.new)) }
+            → (text : List ℕ) × Appends (O.held sink.old) (O.held sink.new) text
+            × IsAt self.new fault (input ++ bytes.now) (before ++ text)) }
+        ensures err { OnErr result ((input before : List ℕ) → IsAt self.old None input before
+            → IsPartBehind (input ++ bytes.now) before (O.held sink.old) (O.held sink.new)) }
         ensures cause { HasStopCause (O.faults sink.old) (O.faults sink.new) result }
         ensures open { O.is_done sink.new ≡ false }
     {
@@ -211,15 +227,18 @@ impl Session {
     pub fn receive<O: Sink>(&mut self, piece: &[u8], sink: &mut O) -> Result<Option<StdioEnd>, Stop>
         requires open { O.is_done sink.old ≡ false }
         requires at { (input : List ℕ) × (before : List ℕ) × IsAt self.old None input before }
-        ensures goes_on { IfOk result (λ end. IfNone end ((input before : List ℕ) → IsAt self.old None input before
+        ensures goes_on { IfOk result (λ end. IfNone end ((input before : List ℕ)
+            → IsAt self.old None input before
             → (text : List ℕ) × Appends (O.held sink.old) (O.held sink.new) text
             × IsAt self.new None (input ++ piece.now) (before ++ text))) }
-        ensures ends { IfOk result (λ end. IfSome end (λ end. (input before : List ℕ) → IsAt self.old None input before
+        ensures ends { IfOk result (λ end. IfSome end (λ end. (input before : List ℕ)
+            → IsAt self.old None input before
             → IsServedBehind end (input ++ piece.now) before (O.held sink.old) (O.held sink.new))) }
         ensures unread { IfOk result (λ end. IfSome end (λ end. is_read end ≡ false)) }
         ensures outside { IfOk result (λ end. IfSome end (λ end. is_decided end ≡ true)) }
         ensures err { OnErr result ((input before : List ℕ) → IsAt self.old None input before
-            → IsPartBehind (take most_input (input ++ piece.now)) before (O.held sink.old) (O.held sink.new)) }
+            → IsPartBehind (take most_input (input ++ piece.now)) before (O.held sink.old)
+            (O.held sink.new)) }
         ensures cause { HasStopCause (O.faults sink.old) (O.faults sink.new) result }
         ensures open { O.is_done sink.new ≡ false }
     {

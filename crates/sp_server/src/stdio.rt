@@ -54,8 +54,10 @@ fn serve<I: Source, O: Sink>(alloc: Global, source: &mut I, sink: &mut O) -> Res
         → IsServed (record { left = I.left source.old; passed = I.passed source.old; held = O.held sink.old; drawn = drawn })
         (record { left = I.left source.new; passed = I.passed source.new; held = O.held sink.new; drawn = drawn }) (outcome result) }
     ensures ended { is_read (outcome result) ≡ true → I.ended source.new ≡ true }
-    ensures input { outcome result ≡ end.InputFault → Rose (I.faults source.old) (I.faults source.new) }
-    ensures output { outcome result ≡ end.OutputFault → Rose (O.faults sink.old) (O.faults sink.new) }
+    ensures input { outcome result ≡ end.InputFault
+        → Rose (I.faults source.old) (I.faults source.new) }
+    ensures output { outcome result ≡ end.OutputFault
+        → Rose (O.faults sink.old) (O.faults sink.new) }
     ensures source { I.is_done source.new ≡ false }
     ensures sink { O.is_done sink.new ≡ false }
 {

@@ -34,7 +34,8 @@ impl Plain {
     /// Performs a system call with the pieces that it read: None, and the same state, where the definition has no step.
     fn call(&mut self, pid: Pid, call: &Call, pieces: &Pieces) -> Result<Option<Outcome>, NoMemory>
         requires { IsSome (at self.old.processes pid.0) }
-        ensures ok { IfOk result (λ answer. act_call self.old pid.0 call.now pieces.now ≡ step_of answer self.new) }
+        ensures ok { IfOk result (λ answer. act_call self.old pid.0 call.now pieces.now
+            ≡ step_of answer self.new) }
         ensures waits { result ≡ Ok None → self.new ≡ self.old }
         ensures err { OnErr result (self.new ≡ self.old) }
     {
@@ -78,7 +79,8 @@ impl Plain {
     /// Performs an operation that has all that it reads.
     fn perform(&mut self, pid: Pid, op: &Op, pieces: &Pieces) -> Result<Option<Outcome>, NoMemory>
         requires { CanAsk self.old pid.0 op.now }
-        ensures ok { IfOk result (λ answer. act_op self.old pid.0 op.now pieces.now ≡ step_of answer self.new) }
+        ensures ok { IfOk result (λ answer. act_op self.old pid.0 op.now pieces.now
+            ≡ step_of answer self.new) }
         ensures waits { result ≡ Ok None → self.new ≡ self.old }
         ensures err { OnErr result (self.new ≡ self.old) }
     {
@@ -95,7 +97,8 @@ impl Plain {
     /// None, exactly where the definition has no step, and want of memory leave the state as it was.
     pub fn act(&mut self, pid: Pid, op: &Op, ins: &Ins) -> Result<Option<Outcome>, NoMemory>
         requires process { CanAsk self.old pid.0 op.now }
-        ensures ok { IfOk result (λ answer. act self.old pid.0 op.now ins.now ≡ step_of answer self.new) }
+        ensures ok { IfOk result (λ answer. act self.old pid.0 op.now ins.now
+            ≡ step_of answer self.new) }
         ensures waits { result ≡ Ok None → self.new ≡ self.old }
         ensures err { OnErr result (self.new ≡ self.old) }
     {

@@ -79,7 +79,8 @@ impl Plain {
 
     /// A success that writes bytes to an address.
     pub(crate) fn wrote(&self, value: u64, addr: u64, bytes: Octets) -> Result<Outcome, NoMemory>
-        ensures { IfOk result (λ outcome. outcome ≡ record (success value) { outs = piece_at addr bytes }) }
+        ensures { IfOk result (λ outcome. outcome
+            ≡ record (success value) { outs = piece_at addr bytes }) }
     {
         let mut outs = Items::none(self.alloc);
         if bytes.len() > 0 {
@@ -102,7 +103,8 @@ impl Plain {
         len: u64,
     ) -> Result<Outcome, NoMemory>
         requires { IsSome (at self.old.processes pid.0) }
-        ensures ok { IfOk result (λ outcome. act_read self.old pid.0 fd addr len ≡ Some (outcome, self.new)) }
+        ensures ok { IfOk result (λ outcome. act_read self.old pid.0 fd addr len
+            ≡ Some (outcome, self.new)) }
         ensures err { OnErr result (self.new ≡ self.old) }
     {
         let Some((number, file)) = self.file_of(pid, fd) else {
@@ -132,7 +134,8 @@ impl Plain {
         offset: u64,
     ) -> Result<Outcome, NoMemory>
         requires { IsSome (at self.old.processes pid.0) }
-        ensures ok { IfOk result (λ outcome. act_pread self.old pid.0 fd addr len offset ≡ Some (outcome, self.new)) }
+        ensures ok { IfOk result (λ outcome. act_pread self.old pid.0 fd addr len offset
+            ≡ Some (outcome, self.new)) }
         ensures err { OnErr result (self.new ≡ self.old) }
     {
         let Some((_, file)) = self.file_of(pid, fd) else {

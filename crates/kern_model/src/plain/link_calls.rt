@@ -57,7 +57,12 @@ impl Plain {
 
     /// Makes a node under a path. Want of memory leaves the state as it was.
     pub(crate) fn make_node(&mut self, path: Path, kind: NodeKind) -> Result<(), NoMemory>
-        ensures ok { OnOk result (self.new ≡ record (with_node self.old (record { kind = kind; bytes = [] })) { names = insert self.old.names path (length self.old.nodes) }) }
+        ensures ok { OnOk result (self.new
+            ≡ record (with_node self.old
+            (record { kind = kind; bytes = [] })) {
+              names = insert self.old.names path
+                  (length self.old.nodes);
+            }) }
         ensures err { OnErr result (self.new ≡ self.old) }
     {
         self.nodes.reserve(1)?;
@@ -81,7 +86,8 @@ impl Plain {
     /// link. Want of memory leaves the state as it was.
     pub(crate) fn link(&mut self, pid: Pid, old: &[u8], new: &[u8]) -> Result<Outcome, NoMemory>
         requires { IsSome (at self.old.processes pid.0) }
-        ensures ok { IfOk result (λ outcome. act_link self.old pid.0 old.now new.now ≡ Some (outcome, self.new)) }
+        ensures ok { IfOk result (λ outcome. act_link self.old pid.0 old.now new.now
+            ≡ Some (outcome, self.new)) }
         ensures err { OnErr result (self.new ≡ self.old) }
     {
         let node = match self.walk(pid, old)? {
@@ -110,7 +116,8 @@ impl Plain {
     /// unlink. Want of memory leaves the state as it was.
     pub(crate) fn unlink(&mut self, pid: Pid, text: &[u8]) -> Result<Outcome, NoMemory>
         requires { IsSome (at self.old.processes pid.0) }
-        ensures ok { IfOk result (λ outcome. act_unlink self.old pid.0 text.now ≡ Some (outcome, self.new)) }
+        ensures ok { IfOk result (λ outcome. act_unlink self.old pid.0 text.now
+            ≡ Some (outcome, self.new)) }
         ensures err { OnErr result (self.new ≡ self.old) }
     {
         let (path, node) = match self.walk(pid, text)? {
@@ -128,7 +135,8 @@ impl Plain {
     /// mkdir. Want of memory leaves the state as it was.
     pub(crate) fn mkdir(&mut self, pid: Pid, text: &[u8]) -> Result<Outcome, NoMemory>
         requires { IsSome (at self.old.processes pid.0) }
-        ensures ok { IfOk result (λ outcome. act_mkdir self.old pid.0 text.now ≡ Some (outcome, self.new)) }
+        ensures ok { IfOk result (λ outcome. act_mkdir self.old pid.0 text.now
+            ≡ Some (outcome, self.new)) }
         ensures err { OnErr result (self.new ≡ self.old) }
     {
         let path = match self.walk(pid, text)? {
@@ -146,7 +154,8 @@ impl Plain {
     /// rmdir. Want of memory leaves the state as it was.
     pub(crate) fn rmdir(&mut self, pid: Pid, text: &[u8]) -> Result<Outcome, NoMemory>
         requires { IsSome (at self.old.processes pid.0) }
-        ensures ok { IfOk result (λ outcome. act_rmdir self.old pid.0 text.now ≡ Some (outcome, self.new)) }
+        ensures ok { IfOk result (λ outcome. act_rmdir self.old pid.0 text.now
+            ≡ Some (outcome, self.new)) }
         ensures err { OnErr result (self.new ≡ self.old) }
     {
         let (path, node, named) = match self.walk(pid, text)? {
@@ -176,7 +185,8 @@ impl Plain {
     /// Goes to another working directory.
     fn set_directory(&mut self, pid: Pid, node: u64)
         requires { IsSome (at self.old.processes pid.0) }
-        ensures { self.new ≡ with_process self.old pid.0 (replace_directory (at self.old.processes pid.0) node) }
+        ensures { self.new
+            ≡ with_process self.old pid.0 (replace_directory (at self.old.processes pid.0) node) }
     {
         let n = pid.0 as usize;
         if n < self.processes.len() {
@@ -189,7 +199,8 @@ impl Plain {
     /// chdir. Want of memory leaves the state as it was.
     pub(crate) fn chdir(&mut self, pid: Pid, text: &[u8]) -> Result<Outcome, NoMemory>
         requires { IsSome (at self.old.processes pid.0) }
-        ensures ok { IfOk result (λ outcome. act_chdir self.old pid.0 text.now ≡ Some (outcome, self.new)) }
+        ensures ok { IfOk result (λ outcome. act_chdir self.old pid.0 text.now
+            ≡ Some (outcome, self.new)) }
         ensures err { OnErr result (self.new ≡ self.old) }
     {
         let node = match self.walk(pid, text)? {

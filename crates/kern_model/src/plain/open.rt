@@ -68,7 +68,8 @@ impl Plain {
         access: Access,
     ) -> Result<Outcome, NoMemory>
         requires { IsSome (at self.old.processes pid.0) }
-        ensures ok { IfOk result (λ outcome. opened self.old pid.0 fd node flags.0 access ≡ Some (outcome, self.new)) }
+        ensures ok { IfOk result (λ outcome. opened self.old pid.0 fd node flags.0 access
+            ≡ Some (outcome, self.new)) }
         ensures err { OnErr result (self.new ≡ self.old) }
     {
         let file = self.files.len() as u64;
@@ -95,7 +96,8 @@ impl Plain {
         access: Access,
     ) -> Result<Outcome, NoMemory>
         requires { IsSome (at self.old.processes pid.0) }
-        ensures ok { IfOk result (λ outcome. open_found self.old pid.0 fd node flags.0 access ≡ Some (outcome, self.new)) }
+        ensures ok { IfOk result (λ outcome. open_found self.old pid.0 fd node flags.0 access
+            ≡ Some (outcome, self.new)) }
         ensures err { OnErr result (self.new ≡ self.old) }
     {
         if flags.creates() && flags.excludes() {
@@ -124,7 +126,9 @@ impl Plain {
         access: Access,
     ) -> Result<Outcome, NoMemory>
         requires { IsSome (at self.old.processes pid.0) }
-        ensures ok { IfOk result (λ outcome. opened (with_new_file self.old path) pid.0 fd (length self.old.nodes) flags.0 access ≡ Some (outcome, self.new)) }
+        ensures ok { IfOk result
+            (λ outcome. opened (with_new_file self.old path) pid.0 fd
+            (length self.old.nodes) flags.0 access ≡ Some (outcome, self.new)) }
         ensures err { OnErr result (self.new ≡ self.old) }
     {
         self.files.reserve(1)?;
@@ -168,7 +172,9 @@ impl Plain {
         access: Access,
     ) -> Result<Outcome, NoMemory>
         requires { IsSome (at self.old.processes pid.0) }
-        ensures ok { IfOk result (λ outcome. open_missing self.old pid.0 fd path slash flags.0 access ≡ Some (outcome, self.new)) }
+        ensures ok { IfOk result
+            (λ outcome. open_missing self.old pid.0 fd path slash flags.0 access
+            ≡ Some (outcome, self.new)) }
         ensures err { OnErr result (self.new ≡ self.old) }
     {
         if !flags.creates() || slash {
@@ -188,7 +194,8 @@ impl Plain {
         flags: OpenFlags,
     ) -> Result<Outcome, NoMemory>
         requires { IsSome (at self.old.processes pid.0) }
-        ensures ok { IfOk result (λ outcome. act_open self.old pid.0 path.now flags.0 ≡ Some (outcome, self.new)) }
+        ensures ok { IfOk result (λ outcome. act_open self.old pid.0 path.now flags.0
+            ≡ Some (outcome, self.new)) }
         ensures err { OnErr result (self.new ≡ self.old) }
     {
         let Some(access) = flags.access() else {

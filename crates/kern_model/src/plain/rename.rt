@@ -32,7 +32,8 @@ impl Plain {
         named: bool,
         new: &Path,
     ) -> Result<Outcome, NoMemory>
-        ensures ok { IfOk result (λ outcome. rename_to_missing self.old old.now node named new.now ≡ Some (outcome, self.new)) }
+        ensures ok { IfOk result (λ outcome. rename_to_missing self.old old.now node named new.now
+            ≡ Some (outcome, self.new)) }
         ensures err { OnErr result (self.new ≡ self.old) }
     {
         if is_root(old.slice()) {
@@ -56,7 +57,8 @@ impl Plain {
         new: &Path,
         replaced: u64,
     ) -> Result<Outcome, NoMemory>
-        ensures ok { IfOk result (λ outcome. rename_over self.old old.now node new.now replaced ≡ Some (outcome, self.new)) }
+        ensures ok { IfOk result (λ outcome. rename_over self.old old.now node new.now replaced
+            ≡ Some (outcome, self.new)) }
         ensures err { OnErr result (self.new ≡ self.old) }
     {
         if !self.is_directory(node) && self.is_directory(replaced) {
@@ -89,7 +91,9 @@ impl Plain {
         replaced: u64,
         new_named: bool,
     ) -> Result<Outcome, NoMemory>
-        ensures ok { IfOk result (λ outcome. rename_to_found self.old old.now node named new.now replaced new_named ≡ Some (outcome, self.new)) }
+        ensures ok { IfOk result
+            (λ outcome. rename_to_found self.old old.now node named new.now replaced new_named
+            ≡ Some (outcome, self.new)) }
         ensures err { OnErr result (self.new ≡ self.old) }
     {
         if named && new_named && is_same(old.slice(), new.slice()) {
@@ -114,7 +118,8 @@ impl Plain {
     /// rename. Want of memory leaves the state as it was.
     pub(crate) fn rename(&mut self, pid: Pid, old: &[u8], new: &[u8]) -> Result<Outcome, NoMemory>
         requires { IsSome (at self.old.processes pid.0) }
-        ensures ok { IfOk result (λ outcome. act_rename self.old pid.0 old.now new.now ≡ Some (outcome, self.new)) }
+        ensures ok { IfOk result (λ outcome. act_rename self.old pid.0 old.now new.now
+            ≡ Some (outcome, self.new)) }
         ensures err { OnErr result (self.new ≡ self.old) }
     {
         let (path, node, named) = match self.walk(pid, old)? {

@@ -56,7 +56,8 @@ impl Plain {
     /// fstat. It changes nothing.
     pub(crate) fn fstat(&self, pid: Pid, fd: u64, addr: u64) -> Result<Outcome, NoMemory>
         requires { IsSome (at self.now.processes pid.0) }
-        ensures { IfOk result (λ outcome. act_fstat self.now pid.0 fd addr ≡ Some (outcome, self.now)) }
+        ensures { IfOk result (λ outcome. act_fstat self.now pid.0 fd addr
+            ≡ Some (outcome, self.now)) }
     {
         let Some((_, file)) = self.file_of(pid, fd) else {
             return Ok(self.failed(Errno::Ebadf));
@@ -68,7 +69,8 @@ impl Plain {
     /// stat. It changes nothing.
     pub(crate) fn stat(&self, pid: Pid, text: &[u8], addr: u64) -> Result<Outcome, NoMemory>
         requires { IsSome (at self.now.processes pid.0) }
-        ensures { IfOk result (λ outcome. act_stat self.now pid.0 text.now addr ≡ Some (outcome, self.now)) }
+        ensures { IfOk result (λ outcome. act_stat self.now pid.0 text.now addr
+            ≡ Some (outcome, self.now)) }
     {
         let node = match self.walk(pid, text)? {
             Walked::Found { node, .. } => node,

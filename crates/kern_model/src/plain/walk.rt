@@ -62,7 +62,8 @@ impl Plain {
 
     /// The object under a path that is known to be there.
     fn found_at(&self, path: &[Octets], named: bool) -> Result<Walked, NoMemory>
-        ensures { IfOk result (λ walked. walked ≡ found_at path.now (get self.now.names path.now) named) }
+        ensures { IfOk result (λ walked. walked
+            ≡ found_at path.now (get self.now.names path.now) named) }
     {
         let Some(node) = self.names.get(path) else {
             return Ok(Walked::Faulty(Errno::Enoent));

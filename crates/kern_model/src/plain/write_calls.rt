@@ -70,7 +70,9 @@ impl Plain {
         bytes: &[u8],
         moved: Option<u64>,
     ) -> Result<Outcome, NoMemory>
-        ensures ok { IfOk result (λ outcome. write_node self.old node file start bytes.now (after_write moved file) ≡ Some (outcome, self.new)) }
+        ensures ok { IfOk result
+            (λ outcome. write_node self.old node file start bytes.now (after_write moved file)
+            ≡ Some (outcome, self.new)) }
         ensures err { OnErr result (self.new ≡ self.old) }
     {
         if !may_write(file.access) {
@@ -97,7 +99,8 @@ impl Plain {
     /// write. Want of memory leaves the state as it was.
     pub(crate) fn write(&mut self, pid: Pid, fd: u64, bytes: &[u8]) -> Result<Outcome, NoMemory>
         requires { IsSome (at self.old.processes pid.0) }
-        ensures ok { IfOk result (λ outcome. act_write self.old pid.0 fd bytes.now ≡ Some (outcome, self.new)) }
+        ensures ok { IfOk result (λ outcome. act_write self.old pid.0 fd bytes.now
+            ≡ Some (outcome, self.new)) }
         ensures err { OnErr result (self.new ≡ self.old) }
     {
         let Some((number, file)) = self.file_of(pid, fd) else {
@@ -117,7 +120,8 @@ impl Plain {
         offset: u64,
     ) -> Result<Outcome, NoMemory>
         requires { IsSome (at self.old.processes pid.0) }
-        ensures ok { IfOk result (λ outcome. act_pwrite self.old pid.0 fd bytes.now offset ≡ Some (outcome, self.new)) }
+        ensures ok { IfOk result (λ outcome. act_pwrite self.old pid.0 fd bytes.now offset
+            ≡ Some (outcome, self.new)) }
         ensures err { OnErr result (self.new ≡ self.old) }
     {
         let Some((_, file)) = self.file_of(pid, fd) else {
@@ -132,7 +136,8 @@ impl Plain {
     /// ftruncate. Want of memory leaves the state as it was.
     pub(crate) fn ftruncate(&mut self, pid: Pid, fd: u64, len: u64) -> Result<Outcome, NoMemory>
         requires { IsSome (at self.old.processes pid.0) }
-        ensures ok { IfOk result (λ outcome. act_ftruncate self.old pid.0 fd len ≡ Some (outcome, self.new)) }
+        ensures ok { IfOk result (λ outcome. act_ftruncate self.old pid.0 fd len
+            ≡ Some (outcome, self.new)) }
         ensures err { OnErr result (self.new ≡ self.old) }
     {
         let Some((_, file)) = self.file_of(pid, fd) else {

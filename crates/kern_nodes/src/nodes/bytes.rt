@@ -52,7 +52,8 @@ impl Nodes {
         requires within { is_above_total (state_of self.old) node.0
             (max (length (contents_of self.old node.0)) (from + length bytes.now)) ≡ false }
         ensures ok { OnOk result (self.new
-            ≡ with_contents self.old node.0 (put_over (contents_of self.old node.0) from bytes.now)) }
+            ≡ with_contents self.old node.0
+            (put_over (contents_of self.old node.0) from bytes.now)) }
         ensures err { OnErr result (self.new ≡ self.old) }
     {
         let before = self.len(node);
