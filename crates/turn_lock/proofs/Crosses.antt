@@ -11,7 +11,7 @@ use Rattle.std.specs.contracts.snapshot.Snapshot as Snapshot
 use Rattle.turn_lock.specs.contracts.rule.LockRule as LockRule
 use Rattle.turn_lock.specs.contracts.rule.LockRuleTableRuleSlotEventReplyViewEventReplySnapshot.TheImpl as rule
 use Rattle.atomic_table.specs.declared.shared.TableRule
-use Rattle.turn_lock.specs.declared.object.Object.{Ghosts}
+use Rattle.sp_base.specs.declared.object.Object.{Ghosts}
 use Rattle.turn_lock.specs.contracts.view.Slot as Slot
 use Rattle.turn_lock.specs.contracts.view.View as View
 use Rattle.turn_lock.specs.contracts.turn.Pass as Pass

@@ -13,14 +13,14 @@ use Rattle.std.specs.Prelude.{slice_index}
 use Rattle.atomic_table.specs.Table.{State, Me, Step, Act, keeps, takes, gives, Valid, Allows, Splits, Joins, opening, stepped, homes_after, carried_after}
 use Rattle.atomic_table.proofs.Lists.{at_set, at_longer, set_again, set_else, exchanged}
 use Rattle.turn_lock.specs.declared.view.Entry.{Entry}
-use Rattle.turn_lock.specs.declared.view.Caller.{Caller}
+use Rattle.turn_lock.specs.declared.view.Player.{Player}
 use Rattle.turn_lock.specs.declared.view.Known.{Known}
 use Rattle.turn_lock.specs.declared.view.Stage.{Stage}
 use Rattle.turn_lock.specs.declared.view.Stage.TheVariants.{Idle, Holding, Spent}
 use Rattle.turn_lock.specs.declared.view.View.{View}
 use Rattle.turn_lock.specs.declared.view.Slot.{Slot}
 use Rattle.turn_lock.specs.History.{BeginsWith, entry, calls_by, longer, Runs, IsLegal, is_name}
-use Rattle.turn_lock.specs.Passes.{IsIn, caller, next_name, with_call, Has, HasName, IsWhole, beginner, counted, child, joining}
+use Rattle.turn_lock.specs.Passes.{IsIn, player, next_name, with_call, Has, HasName, IsWhole, beginner, counted, child, joining}
 use Rattle.turn_lock.specs.Rule.{Fits, IsAt, Apart, Below, Unknown, Kept, Knows, Took, Tried, Committed, Freed, holding, idle, called, spent, first_slot}
 use Rattle.turn_lock.proofs.Names.{same_name, other_name, in_append, in_left, in_right, begins_self, begins_more, nil_longer, snoc_extends, calls_snoc, calls_other, longer_begins}
 use Rattle.turn_lock.proofs.Views.{at_here, at_end, Covers, covers_self, Names, names_self, From, apart_from, below_from, unknown_from, same_set, back_set, each_set, reaches}
@@ -68,21 +68,21 @@ module _ {O E R : Type 0} (step : O → E → R → O → Type 0) (o : O) where
           (at_set s.views id j both u x.1))
           (at_set one other j spent u p.0)
 
-      of_two : (m : Caller E R) → Has both.known m → Has v.known m ⊎ Has w.known m
+      of_two : (m : Player E R) → Has both.known m → Has v.known m ⊎ Has w.known m
       of_two m (inl e) = inl (inl e)
       of_two m (inr (inl e)) = inr (inl e)
       of_two m (inr (inr i)) = ⊎_elim (λ x. inr (inr x)) (λ x. inl (inr x)) (in_append m w.known.joined v.known.joined i)
 
-      from_left : (m : Caller E R) → Has v.known m → Has both.known m
+      from_left : (m : Player E R) → Has v.known m → Has both.known m
       from_left m (inl e) = inl e
       from_left m (inr i) = inr (inr (in_right m w.known.joined v.known.joined i))
 
-      from_right : (m : Caller E R) → Has w.known m → Has both.known m
+      from_right : (m : Player E R) → Has w.known m → Has both.known m
       from_right m (inl e) = inr (inl e)
       from_right m (inr i) = inr (inr (in_left m w.known.joined v.known.joined i))
 
       -- where a pass of the table stood before
-      source : (j : ℕ) (u : View O E R) → IsAt two j u → (m : Caller E R) → Has u.known m → (i : ℕ) × (x : View O E R) × IsAt s.views i x × Has x.known m × ((i ≡ j) ⊎ ((j ≡ id) × (i ≡ other)))
+      source : (j : ℕ) (u : View O E R) → IsAt two j u → (m : Player E R) → Has u.known m → (i : ℕ) × (x : View O E R) × IsAt s.views i x × Has x.known m × ((i ≡ j) ⊎ ((j ≡ id) × (i ≡ other)))
       source j u p m hm =
           ⊎_elim
           (λ (x : (j ≡ id) × (both ≡ u)).
@@ -111,7 +111,7 @@ module _ {O E R : Type 0} (step : O → E → R → O → Type 0) (o : O) where
         turn = λ p t. absurd (cc);
       }
         where
-          not_own : (m : Caller E R) → IsIn m both.known.joined → m.name ≢ v.known.own.name
+          not_own : (m : Player E R) → IsIn m both.known.joined → m.name ≢ v.known.own.name
           not_own m (inl e) = h.apart other id w v apart' there here m v.known.own (inl e) (inl refl)
           not_own m (inr i) = ⊎_elim (λ x. h.apart other id w v apart' there here m v.known.own (inr x) (inl refl)) (λ x. f.own m x) (in_append m w.known.joined v.known.joined i)
 

@@ -13,14 +13,14 @@ use Rattle.std.specs.Prelude.{slice_index}
 use Rattle.atomic_table.specs.Table.{State, Me, Step, Act, keeps, takes, gives, Valid, Allows, Splits, Joins, opening, stepped, homes_after, carried_after}
 use Rattle.atomic_table.proofs.Lists.{at_set, at_longer, set_again, set_else, exchanged}
 use Rattle.turn_lock.specs.declared.view.Entry.{Entry}
-use Rattle.turn_lock.specs.declared.view.Caller.{Caller}
+use Rattle.turn_lock.specs.declared.view.Player.{Player}
 use Rattle.turn_lock.specs.declared.view.Known.{Known}
 use Rattle.turn_lock.specs.declared.view.Stage.{Stage}
 use Rattle.turn_lock.specs.declared.view.Stage.TheVariants.{Idle, Holding, Spent}
 use Rattle.turn_lock.specs.declared.view.View.{View}
 use Rattle.turn_lock.specs.declared.view.Slot.{Slot}
 use Rattle.turn_lock.specs.History.{BeginsWith, entry, calls_by, longer, Runs, IsLegal, is_name}
-use Rattle.turn_lock.specs.Passes.{IsIn, caller, next_name, with_call, Has, HasName, IsWhole, beginner, counted, child, joining}
+use Rattle.turn_lock.specs.Passes.{IsIn, player, next_name, with_call, Has, HasName, IsWhole, beginner, counted, child, joining}
 use Rattle.turn_lock.specs.Rule.{Fits, IsAt, Apart, Below, Unknown, Kept, Knows, Took, Tried, Committed, Freed, holding, idle, called, spent, first_slot}
 use Rattle.turn_lock.proofs.Names.{same_name, other_name, in_append, in_left, in_right, begins_self, begins_more, nil_longer, snoc_extends, calls_snoc, calls_other, longer_begins}
 use Rattle.turn_lock.proofs.Views.{at_here, at_end, Covers, covers_self, Names, names_self, From, apart_from, below_from, unknown_from, same_set, back_set, each_set, reaches}
@@ -48,25 +48,25 @@ module _ {O E R : Type 0} (step : O → E → R → O → Type 0) (o : O) where
       live e = absurd (cc)
 
       there : Covers w.known v.known
-      there m (inl e) = (v.known.own, inl refl, ap (λ (z : Caller E R). z.name) e, (let k : m.splits ≡ v.known.own.splits + 1 = ap (λ (z : Caller E R). z.splits) e in omega arith))
+      there m (inl e) = (v.known.own, inl refl, ap (λ (z : Player E R). z.name) e, (let k : m.splits ≡ v.known.own.splits + 1 = ap (λ (z : Player E R). z.splits) e in omega arith))
       there m (inr i) = (m, inr i, refl, omega arith)
 
       back : Names v.known w.known
-      back m (inl e) = (w.known.own, inl refl, ap (λ (z : Caller E R). z.name) e)
+      back m (inl e) = (w.known.own, inl refl, ap (λ (z : Player E R). z.name) e)
       back m (inr i) = (m, inr i, refl)
 
       one : List (View O E R)
       one = set s.views id w
 
-      fresh : (j : ℕ) (u : View O E R) → IsAt s.views j u → (a : Caller E R) → Has u.known a → a.name ≢ v.known.own.name ++ v.known.own.splits ∷ []
+      fresh : (j : ℕ) (u : View O E R) → IsAt s.views j u → (a : Player E R) → Has u.known a → a.name ≢ v.known.own.name ++ v.known.own.splits ∷ []
       fresh j u p a ha e = absurd (let lt = h.below id j v u here p v.known.own a (inl refl) ha v.known.own.splits [] e in omega arith)
 
-      new_calls : (m : Caller E R) → Has c.known m → calls_by m.name h.history ≡ m.calls
-      new_calls m (inl e) = ap (λ (z : Caller E R). calls_by z.name h.history) e ∙ h.unknown (v.known.own.name ++ v.known.own.splits ∷ []) fresh ∙ sym (ap (λ (z : Caller E R). z.calls) e)
+      new_calls : (m : Player E R) → Has c.known m → calls_by m.name h.history ≡ m.calls
+      new_calls m (inl e) = ap (λ (z : Player E R). calls_by z.name h.history) e ∙ h.unknown (v.known.own.name ++ v.known.own.splits ∷ []) fresh ∙ sym (ap (λ (z : Player E R). z.calls) e)
       new_calls m (inr i) = absurd i
 
-      own_calls : (m : Caller E R) → Has w.known m → calls_by m.name h.history ≡ m.calls
-      own_calls m (inl e) = ap (λ (z : Caller E R). calls_by z.name h.history) e ∙ f.calls v.known.own (inl refl) ∙ sym (ap (λ (z : Caller E R). z.calls) e)
+      own_calls : (m : Player E R) → Has w.known m → calls_by m.name h.history ≡ m.calls
+      own_calls m (inl e) = ap (λ (z : Player E R). calls_by z.name h.history) e ∙ f.calls v.known.own (inl refl) ∙ sym (ap (λ (z : Player E R). z.calls) e)
       own_calls m (inr i) = f.calls m (inr i)
 
       mine : Fits o h.history h.now h.lock h.holder id w
@@ -82,15 +82,15 @@ module _ {O E R : Type 0} (step : O → E → R → O → Type 0) (o : O) where
           (λ (x : (j ≡ length one) × (c ≡ u)). subst (λ z. Fits o h.history h.now h.lock h.holder j z) x.1 (theirs j))
           (at_end one c u j p.0)
 
-      new_name : (m : Caller E R) → Has c.known m → m.name ≡ v.known.own.name ++ v.known.own.splits ∷ []
-      new_name m (inl e) = ap (λ (z : Caller E R). z.name) e
+      new_name : (m : Player E R) → Has c.known m → m.name ≡ v.known.own.name ++ v.known.own.splits ∷ []
+      new_name m (inl e) = ap (λ (z : Player E R). z.name) e
       new_name m (inr i) = absurd i
 
-      new_count : (m : Caller E R) → Has c.known m → m.splits ≡ 0
-      new_count m (inl e) = ap (λ (z : Caller E R). z.splits) e
+      new_count : (m : Player E R) → Has c.known m → m.splits ≡ 0
+      new_count m (inl e) = ap (λ (z : Player E R). z.splits) e
       new_count m (inr i) = absurd i
 
-      fresh_there : (j : ℕ) (u : View O E R) → IsAt one j u → (a : Caller E R) → Has u.known a → a.name ≢ v.known.own.name ++ v.known.own.splits ∷ []
+      fresh_there : (j : ℕ) (u : View O E R) → IsAt one j u → (a : Player E R) → Has u.known a → a.name ≢ v.known.own.name ++ v.known.own.splits ∷ []
       fresh_there j u p a ha e =
           let x = same_set s.views id v w here there j u p in
           let y = x.2 a ha in
@@ -112,16 +112,16 @@ module _ {O E R : Type 0} (step : O → E → R → O → Type 0) (o : O) where
           (at_end one c x j p.0)
 
       -- a pass with the name of this one is this one
-      counts : (j : ℕ) (u : View O E R) → IsAt one j u → (a : Caller E R) → Has u.known a → a.name ≡ v.known.own.name → v.known.own.splits < a.splits
-      counts = each_set s.views id w (λ j u. (a : Caller E R) → Has u.known a → a.name ≡ v.known.own.name → v.known.own.splits < a.splits)
+      counts : (j : ℕ) (u : View O E R) → IsAt one j u → (a : Player E R) → Has u.known a → a.name ≡ v.known.own.name → v.known.own.splits < a.splits
+      counts = each_set s.views id w (λ j u. (a : Player E R) → Has u.known a → a.name ≡ v.known.own.name → v.known.own.splits < a.splits)
           (λ j u ne p a ha e. absurd (h.apart j id u v ne p here a v.known.own ha (inl refl) e))
           own_count
         where
-          own_count : (a : Caller E R) → Has w.known a → a.name ≡ v.known.own.name → v.known.own.splits < a.splits
-          own_count a (inl e) n = let k : a.splits ≡ v.known.own.splits + 1 = ap (λ (z : Caller E R). z.splits) e in omega arith
+          own_count : (a : Player E R) → Has w.known a → a.name ≡ v.known.own.name → v.known.own.splits < a.splits
+          own_count a (inl e) n = let k : a.splits ≡ v.known.own.splits + 1 = ap (λ (z : Player E R). z.splits) e in omega arith
           own_count a (inr i) n = absurd (f.own a i n)
 
-      below_new : (j : ℕ) (x : View O E R) → IsAt one j x → (a : Caller E R) → Has x.known a → (n : ℕ) (more : List ℕ) → v.known.own.name ++ v.known.own.splits ∷ [] ≡ a.name ++ n ∷ more → n < a.splits
+      below_new : (j : ℕ) (x : View O E R) → IsAt one j x → (a : Player E R) → Has x.known a → (n : ℕ) (more : List ℕ) → v.known.own.name ++ v.known.own.splits ∷ [] ≡ a.name ++ n ∷ more → n < a.splits
       below_new j x p a ha n more e =
           ⊎_elim
           (λ (z : (a.name ≡ v.known.own.name) × (n ≡ v.known.own.splits)). let k = z.1 in let l = counts j x p a ha z.0 in omega arith)
@@ -129,7 +129,7 @@ module _ {O E R : Type 0} (step : O → E → R → O → Type 0) (o : O) where
           (snoc_extends a.name v.known.own.name v.known.own.splits n more e)
 
       -- no name extends the new one
-      above_new : (k : ℕ) (y : View O E R) → IsAt one k y → (b : Caller E R) → Has y.known b → (n : ℕ) (more : List ℕ) → b.name ≡ (v.known.own.name ++ v.known.own.splits ∷ []) ++ n ∷ more → ⊥
+      above_new : (k : ℕ) (y : View O E R) → IsAt one k y → (b : Player E R) → Has y.known b → (n : ℕ) (more : List ℕ) → b.name ≡ (v.known.own.name ++ v.known.own.splits ∷ []) ++ n ∷ more → ⊥
       above_new k y q b hb n more e =
           let x = same_set s.views id v w here there k y q in
           let z = x.2 b hb in

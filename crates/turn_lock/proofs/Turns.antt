@@ -13,14 +13,14 @@ use Rattle.std.specs.Prelude.{slice_index}
 use Rattle.atomic_table.specs.Table.{State, Me, Step, Act, keeps, takes, gives, Valid, Allows, Splits, Joins, opening, stepped, homes_after, carried_after}
 use Rattle.atomic_table.proofs.Lists.{at_set, at_longer, set_again, set_else, exchanged}
 use Rattle.turn_lock.specs.declared.view.Entry.{Entry}
-use Rattle.turn_lock.specs.declared.view.Caller.{Caller}
+use Rattle.turn_lock.specs.declared.view.Player.{Player}
 use Rattle.turn_lock.specs.declared.view.Known.{Known}
 use Rattle.turn_lock.specs.declared.view.Stage.{Stage}
 use Rattle.turn_lock.specs.declared.view.Stage.TheVariants.{Idle, Holding, Spent}
 use Rattle.turn_lock.specs.declared.view.View.{View}
 use Rattle.turn_lock.specs.declared.view.Slot.{Slot}
 use Rattle.turn_lock.specs.History.{BeginsWith, entry, calls_by, longer, Runs, IsLegal, is_name}
-use Rattle.turn_lock.specs.Passes.{IsIn, caller, next_name, with_call, Has, HasName, IsWhole, beginner, counted, child, joining}
+use Rattle.turn_lock.specs.Passes.{IsIn, player, next_name, with_call, Has, HasName, IsWhole, beginner, counted, child, joining}
 use Rattle.turn_lock.specs.Rule.{Fits, IsAt, Apart, Below, Unknown, Kept, Knows, Took, Tried, Committed, Freed, holding, idle, called, spent, first_slot}
 use Rattle.turn_lock.proofs.Names.{same_name, other_name, in_append, in_left, in_right, begins_self, begins_more, nil_longer, snoc_extends, calls_snoc, calls_other, longer_begins}
 use Rattle.turn_lock.proofs.Views.{at_here, at_end, Covers, covers_self, Names, names_self, From, apart_from, below_from, unknown_from, same_set, back_set, each_set, reaches}
@@ -42,10 +42,10 @@ module _ {O E R : Type 0} (step : O → E → R → O → Type 0) (o : O) where
   abbrev pub start : View O E R
   start = idle (beginner o)
 
-  nameless : (v : View O E R) (m : Caller E R) → start ≡ v → Has v.known m → m ≡ caller [] 0 []
+  nameless : (v : View O E R) (m : Player E R) → start ≡ v → Has v.known m → m ≡ player [] 0 []
   nameless v m e h = go (subst (λ z. Has z.known m) (sym e) h)
     where
-      go : Has {O = O} {E = E} {R = R} (beginner o) m → m ≡ caller [] 0 []
+      go : Has {O = O} {E = E} {R = R} (beginner o) m → m ≡ player [] 0 []
       go (inl same) = same
       go (inr none) = absurd none
 
@@ -73,7 +73,7 @@ module _ {O E R : Type 0} (step : O → E → R → O → Type 0) (o : O) where
       first j = record {
         opened = refl;
         seen = ([], refl);
-        calls = λ m h. ap (λ (z : Caller E R). calls_by z.name []) (nameless start m refl h) ∙ sym (ap (λ (z : Caller E R). z.calls) (nameless start m refl h));
+        calls = λ m h. ap (λ (z : Player E R). calls_by z.name []) (nameless start m refl h) ∙ sym (ap (λ (z : Player E R). z.calls) (nameless start m refl h));
         own = λ m h. absurd h;
         turn = λ p e. absurd (cc);
       }
@@ -159,20 +159,20 @@ module _ {O E R : Type 0} (step : O → E → R → O → Type 0) (o : O) where
 
       -- the pass by its names and counts
       there : Covers w.known v.known
-      there m (inl e) = (v.known.own, inl refl, ap (λ (z : Caller E R). z.name) e, (let k : m.splits ≡ v.known.own.splits = ap (λ (z : Caller E R). z.splits) e in omega arith))
+      there m (inl e) = (v.known.own, inl refl, ap (λ (z : Player E R). z.name) e, (let k : m.splits ≡ v.known.own.splits = ap (λ (z : Player E R). z.splits) e in omega arith))
       there m (inr i) = (m, inr i, refl, omega arith)
 
       back : Names v.known w.known
-      back m (inl e) = (w.known.own, inl refl, ap (λ (z : Caller E R). z.name) e)
+      back m (inl e) = (w.known.own, inl refl, ap (λ (z : Player E R). z.name) e)
       back m (inr i) = (m, inr i, refl)
 
-      unchanged : (m : Caller E R) → m.name ≢ v.known.own.name → calls_by m.name h.history ≡ m.calls → calls_by m.name history ≡ m.calls
+      unchanged : (m : Player E R) → m.name ≢ v.known.own.name → calls_by m.name h.history ≡ m.calls → calls_by m.name history ≡ m.calls
       unchanged m ne was = calls_other m.name v.known.own.name event.value reply.value h.history (other_name m.name v.known.own.name ne) ∙ was
 
-      own_calls : (m : Caller E R) → Has w.known m → calls_by m.name history ≡ m.calls
+      own_calls : (m : Player E R) → Has w.known m → calls_by m.name history ≡ m.calls
       own_calls m (inl e) =
-          let n : m.name ≡ v.known.own.name = ap (λ (z : Caller E R). z.name) e in
-          let k : m.calls ≡ v.known.own.calls ++ new ∷ [] = ap (λ (z : Caller E R). z.calls) e in
+          let n : m.name ≡ v.known.own.name = ap (λ (z : Player E R). z.name) e in
+          let k : m.calls ≡ v.known.own.calls ++ new ∷ [] = ap (λ (z : Player E R). z.calls) e in
           ap (λ l. calls_by l history) n ∙ calls_snoc v.known.own.name v.known.own.name event.value reply.value h.history (same_name v.known.own.name) ∙ ap (λ l. l ++ new ∷ []) (f.calls v.known.own (inl refl)) ∙ sym k
       own_calls m (inr i) = unchanged m (f.own m i) (f.calls m (inr i))
 

@@ -7,7 +7,7 @@ use lib.ListN.{get_elem?}
 use Rattle.atomic_table.proofs.Lists.{at_set, at_snoc, set_else, at_longer}
 use Rattle.std.proofs.lemmas.List.{append-nil, append_assoc}
 use Rattle.turn_lock.specs.declared.view.Entry.{Entry}
-use Rattle.turn_lock.specs.declared.view.Caller.{Caller}
+use Rattle.turn_lock.specs.declared.view.Player.{Player}
 use Rattle.turn_lock.specs.declared.view.Known.{Known}
 use Rattle.turn_lock.specs.declared.view.Stage.TheVariants.{Spent}
 use Rattle.turn_lock.specs.declared.view.View.{View}
@@ -30,14 +30,14 @@ at_here (x ∷ xs) (suc i) a w e = at_here xs i a w e
 module _ {O E R : Type 0} where
   -- each pass of the one has the name of a pass of the other, with no smaller count
   abbrev pub Covers : Known O E R → Known O E R → Type 0
-  Covers v w = (m : Caller E R) → Has v m → (m' : Caller E R) × Has w m' × (m.name ≡ m'.name) × (m'.splits ≤ m.splits)
+  Covers v w = (m : Player E R) → Has v m → (m' : Player E R) × Has w m' × (m.name ≡ m'.name) × (m'.splits ≤ m.splits)
 
   pub covers_self : (v : Known O E R) → Covers v v
   covers_self v m h = (m, h, refl, omega arith)
 
   -- each pass of the one has the name of a pass of the other
   abbrev pub Names : Known O E R → Known O E R → Type 0
-  Names v w = (m : Caller E R) → Has v m → (m' : Caller E R) × Has w m' × (m.name ≡ m'.name)
+  Names v w = (m : Player E R) → Has v m → (m' : Player E R) × Has w m' × (m.name ≡ m'.name)
 
   pub names_self : (v : Known O E R) → Names v v
   names_self v m h = (m, h, refl)
@@ -101,7 +101,7 @@ module _ {O E R : Type 0} where
       (at_set views id j w u p.0)
 
   -- all names of the table are names of the whole pass
-  pub reaches : (views : List (View O E R)) (id : ℕ) (v : View O E R) → Below views → IsAt views id v → IsWhole v.known → (j : ℕ) (u : View O E R) → IsAt views j u → (a : Caller E R) → Has u.known a
+  pub reaches : (views : List (View O E R)) (id : ℕ) (v : View O E R) → Below views → IsAt views id v → IsWhole v.known → (j : ℕ) (u : View O E R) → IsAt views j u → (a : Player E R) → Has u.known a
       → (more p : List ℕ) → HasName v.known p → a.name ≡ p ++ more → HasName v.known (p ++ more)
   reaches views id v below at whole j u atu a ha [] p h e = subst (HasName v.known) (sym (append-nil p)) h
   reaches views id v below at whole j u atu a ha (k ∷ more) p h e =

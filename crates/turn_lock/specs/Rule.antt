@@ -5,14 +5,14 @@ use mathlib.Core.Option.{some}
 use lib.ListN.{get_elem?}
 use Rattle.atomic_table.specs.Table.{State, Me, Step, rest}
 use Rattle.turn_lock.specs.declared.view.Entry.{Entry}
-use Rattle.turn_lock.specs.declared.view.Caller.{Caller}
+use Rattle.turn_lock.specs.declared.view.Player.{Player}
 use Rattle.turn_lock.specs.declared.view.Known.{Known}
 use Rattle.turn_lock.specs.declared.view.Stage.{Stage}
 use Rattle.turn_lock.specs.declared.view.Stage.TheVariants.{Idle, Holding, Spent}
 use Rattle.turn_lock.specs.declared.view.View.{View}
 use Rattle.turn_lock.specs.declared.view.Slot.{Slot}
 use Rattle.turn_lock.specs.History.{BeginsWith, BeginsAndEnds, entry, calls_by, Runs, Leads, IsLegal}
-use Rattle.turn_lock.specs.Passes.{IsIn, caller, with_call, Has, HasName, IsWhole}
+use Rattle.turn_lock.specs.Passes.{IsIn, player, with_call, Has, HasName, IsWhole}
 
 module _ {O E R : Type 0} where
   -- the view of a pass without the turn
@@ -25,7 +25,7 @@ module _ {O E R : Type 0} where
 
   -- the view of a pass that was joined into another
   abbrev pub spent : View O E R
-  spent = record { stage = Spent; known = record { opening = None; seen = []; own = caller [] 0 []; joined = [] } }
+  spent = record { stage = Spent; known = record { opening = None; seen = []; own = player [] 0 []; joined = [] } }
 
   -- the pass in the seat j was not joined into another, and this is its view
   abbrev pub IsAt : List (View O E R) → ℕ → View O E R → Type 0
@@ -36,25 +36,25 @@ module _ {O E R : Type 0} where
   pub record Fits (opening : O) (history : List (Entry E R)) (now : O) (lock holder j : ℕ) (v : View O E R) : Type 0 where
     pub opened : v.known.opening ≡ Some opening
     pub seen : BeginsWith history v.known.seen
-    pub calls : (c : Caller E R) → Has v.known c → calls_by c.name history ≡ c.calls
-    pub own : (c : Caller E R) → IsIn c v.known.joined → c.name ≢ v.known.own.name
+    pub calls : (c : Player E R) → Has v.known c → calls_by c.name history ≡ c.calls
+    pub own : (c : Player E R) → IsIn c v.known.joined → c.name ≢ v.known.own.name
     pub turn : (o : O) → v.stage ≡ Holding o → (lock ≡ 1) × (j ≡ holder) × (o ≡ now) × (v.known.seen ≡ history)
 
   -- no two passes have a name in common
   abbrev pub Apart : List (View O E R) → Type 0
   Apart views = (j k : ℕ) (v w : View O E R) → j ≢ k → IsAt views j v → IsAt views k w
-      → (a b : Caller E R) → Has v.known a → Has w.known b → a.name ≢ b.name
+      → (a b : Player E R) → Has v.known a → Has w.known b → a.name ≢ b.name
 
   -- a name that extends another goes on with a number below the other's count of splits
   abbrev pub Below : List (View O E R) → Type 0
   Below views = (j k : ℕ) (v w : View O E R) → IsAt views j v → IsAt views k w
-      → (a b : Caller E R) → Has v.known a → Has w.known b
+      → (a b : Player E R) → Has v.known a → Has w.known b
       → (n : ℕ) (more : List ℕ) → b.name ≡ a.name ++ n ∷ more → n < a.splits
 
   -- a name that no pass has stands in no entry
   abbrev pub Unknown : List (View O E R) → List (Entry E R) → Type 0
   Unknown views history = (name : List ℕ)
-      → ((j : ℕ) (v : View O E R) → IsAt views j v → (c : Caller E R) → Has v.known c → c.name ≢ name)
+      → ((j : ℕ) (v : View O E R) → IsAt views j v → (c : Player E R) → Has v.known c → c.name ≢ name)
       → calls_by name history ≡ []
 
   -- the rule: the history leads from the opening object to the one behind the lock; the lock word is 0 or 1, and the
@@ -78,7 +78,7 @@ module _ {O E R : Type 0} where
   pub record Knows (step : O → E → R → O → Type 0) (k : Known O E R) (history : List (Entry E R)) (now : O) : Type 0 where
     pub legal : Leads step k.opening history now
     pub begins : BeginsWith history k.seen
-    pub calls : (c : Caller E R) → Has k c → calls_by c.name history ≡ c.calls
+    pub calls : (c : Player E R) → Has k c → calls_by c.name history ≡ c.calls
     pub others : IsWhole k → (name : List ℕ) → (HasName k name → ⊥) → calls_by name history ≡ []
 
   -- the turn was taken, and the slot with the object

@@ -1,14 +1,12 @@
 //! One object that many threads play on in turn, and the one history of their calls.
 #![tactic(auto)]
 
-mod object;
 mod rule;
 mod turn;
 mod view;
 
-pub use object::Object;
 pub use turn::{Pass, Turn};
-pub use view::{Caller, Entry, Known, Slot, Stage, View};
+pub use view::{Entry, Known, Player, Slot, Stage, View};
 
 #[cfg(test)]
 mod tests;

@@ -3,9 +3,9 @@ ghost use Rattle.std.specs.Prelude.{◌≡◌};
 ghost use Rattle.turn_lock.specs.Passes.{beginner, counted, child, joining};
 ghost use Rattle.turn_lock.specs.Rule.{Kept, Tried, Committed, Freed, idle, spent};
 
-use crate::object::Object;
 use crate::view::{Slot, View};
 use atomic_table::{Join, Play, Split, TableRule};
+use sp_base::Object;
 use std::marker::PhantomData;
 use std::snapshot::Snapshot;
 

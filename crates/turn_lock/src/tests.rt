@@ -1,5 +1,6 @@
 // Passes that are split off each other three deep, each of which plays, and what closing gives.
-use crate::{Object, Turn};
+use crate::Turn;
+use sp_base::Object;
 use std::test::Fail;
 
 /// A text that grows by a byte a call.
@@ -10,6 +11,7 @@ struct Tape {
 
 impl Object for Tape {
     type Event = u8;
+
     type Reply = usize;
 
     ghost may_play = { λ _. Unit {0} };
@@ -40,6 +42,6 @@ fn splits_three_deep(rt: HostRuntime) -> Result<(), Fail> {
     turn.join(&mut first, child);
     assert_eq!(rt; turn.play(&rt, &mut first, b'e'), 5);
     let tape = turn.close(&rt, first);
-    assert_eq!(rt; tape.text.as_slice(), b"abcde");
+    assert_eq!(rt; tape.text.as_slice(), b"abcde".as_slice());
     Ok(())
 }

@@ -5,12 +5,11 @@ ghost use Rattle.turn_lock.specs.History.{IsLegal, BeginsAndEnds, entry, calls_b
 ghost use Rattle.turn_lock.specs.Passes.{beginner, with_call, counted, child, joining, IsWhole, Closes};
 ghost use Rattle.turn_lock.specs.Rule.{Played, Took, Carries, IsOneSlot, Tells, home};
 
-use crate::object::Object;
 use crate::rule::{Commit, Free, JoinInto, LockRule, SplitOff, Try};
 use crate::view::{Slot, View};
 use atomic_table::{Seat, Table};
 use crossbeam_utils::Backoff;
-use sp_base::NoMemory;
+use sp_base::{NoMemory, Object};
 use std::alloc::Global;
 use std::marker::Model;
 use std::snapshot::Snapshot;
@@ -22,7 +21,7 @@ const LOCK: usize = 0;
 /// The word that counts the history's entries, modulo 2^64.
 const COUNT: usize = 1;
 
-/// What one caller has seen of a lock's history, and by what name its calls stand in it.
+/// What one player has seen of a lock's history, and by what name its calls stand in it.
 ///
 /// It has no bytes. Contracts see it as the lock that it is of, and what it knows.
 #[derive(Drop)]
@@ -124,7 +123,7 @@ impl<O: Object> Turn<O> {
         self.play_at(rt, &mut pass.seat, event)
     }
 
-    /// Splits a pass off, for another caller: it has a name of its own, has seen the same history, and
+    /// Splits a pass off, for another player: it has a name of its own, has seen the same history, and
     /// made no call.
     pub fn split(&self, pass: &mut Pass<O>) -> Pass<O>
         requires of { pass.old.turn ≡ self.now }

@@ -10,7 +10,7 @@ pub struct Entry<E, R> {
 }
 
 /// What a pass is known by: its name, how many passes were split off it, and its calls, in order.
-pub struct Caller<E, R> {
+pub struct Player<E, R> {
     pub name: LinkedList<u64>,
     pub splits: u64,
     pub calls: LinkedList<Entry<E, R>>,
@@ -23,9 +23,9 @@ pub struct Known<O, E, R> {
     /// The history that the pass has seen.
     pub seen: LinkedList<Entry<E, R>>,
     /// The pass itself.
-    pub own: Caller<E, R>,
+    pub own: Player<E, R>,
     /// The passes that were joined into it.
-    pub joined: LinkedList<Caller<E, R>>,
+    pub joined: LinkedList<Player<E, R>>,
 }
 
 /// Where a pass stands.
