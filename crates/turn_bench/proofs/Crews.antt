@@ -41,14 +41,16 @@ lent_more turn n [] job h on own joined = (on, own ∙ ap (λ k. player (k ∷ [
 lent_more turn n (j ∷ jobs) job h on own joined = (h.0, h.1, h.2, lent_more turn (n + 1) jobs job h.3 on (own ∙ ap (λ k. player (k ∷ []) 0 []) (omega arith)) joined)
 
 pub lends : (pass later : CounterPass) (jobs : List Played) (job : Played) (more : ℕ) → IsCrew pass jobs → Lends pass more later job → IsCrew later (jobs ++ job ∷ []) × (planned later (jobs ++ job ∷ []) ≡ planned pass jobs + more)
-lends pass later jobs job more h l = subst (λ (p : CounterPass). IsCrew p (jobs ++ job ∷ []) × (planned p (jobs ++ job ∷ []) ≡ planned pass jobs + more)) (sym l.parent)
-    (record {
-      name = h.name;
-      splits = let s = h.splits in omega (arith, length-append jobs (job ∷ []));
-      back = h.back;
-      lent = lent_more pass.turn (length pass.known.joined) jobs job h.lent (ap (λ (p : CounterPass). p.turn) l.lent) (ap (λ (p : CounterPass). p.known.own) l.lent ∙ ap (λ (name : List ℕ). player name 0 []) name) (ap (λ (p : CounterPass). p.known.joined) l.lent);
-      opening = h.opening;
-    }, (let s = sum_by_push (λ (j : Played). j.calls) jobs job in let c = l.calls in omega arith))
+lends pass later jobs job more h l = subst (λ (p : CounterPass). IsCrew p (jobs ++ job ∷ []) × (planned p (jobs ++ job ∷ []) ≡ planned pass jobs + more)) (sym l.parent) (
+  record {
+    name = h.name;
+    splits = let s = h.splits in omega (arith, length-append jobs (job ∷ []));
+    back = h.back;
+    lent = lent_more pass.turn (length pass.known.joined) jobs job h.lent (ap (λ (p : CounterPass). p.turn) l.lent) (ap (λ (p : CounterPass). p.known.own) l.lent ∙ ap (λ (name : List ℕ). player name 0 []) name) (ap (λ (p : CounterPass). p.known.joined) l.lent);
+    opening = h.opening;
+  },
+  (let s = sum_by_push (λ (j : Played). j.calls) jobs job in let c = l.calls in omega arith),
+)
   where
     name : pass.known.own.name ++ pass.known.own.splits ∷ [] ≡ (length pass.known.joined + length jobs) ∷ []
     name = (λ i. h.name i ++ h.splits i ∷ [])
@@ -73,14 +75,16 @@ takes pass later jobs job h t = subst (λ (p : CounterPass). IsCrew p jobs × (p
     }
 
 pub plays_more : (pass later : CounterPass) (jobs : List Played) (n : ℕ) → IsCrew pass jobs → later.turn ≡ pass.turn → Plays pass.known n later.known → IsCrew later jobs × (planned later jobs ≡ planned pass jobs + n)
-plays_more pass later jobs n h on p =
-    (record {
-      name = p.name ∙ h.name;
-      splits = p.splits ∙ h.splits ∙ ap (λ l. length l + length jobs) (sym p.joined);
-      back = subst AreBack (sym p.joined) h.back;
-      lent = (λ (t : TableId) (l : List (Player ⊤ ℕ)) (a : pass.turn ≡ t) (b : pass.known.joined ≡ l). subst (λ z. AreLent z (length l) jobs) a (subst (λ z. AreLent pass.turn (length z) jobs) b h.lent)) later.turn later.known.joined (sym on) (sym p.joined);
-      opening = p.opening ∙ h.opening;
-    }, (let c = p.calls in let j = ap (λ l. sum_by (λ (c : Player ⊤ ℕ). length c.calls) l) p.joined in omega arith))
+plays_more pass later jobs n h on p = (
+  record {
+    name = p.name ∙ h.name;
+    splits = p.splits ∙ h.splits ∙ ap (λ l. length l + length jobs) (sym p.joined);
+    back = subst AreBack (sym p.joined) h.back;
+    lent = (λ (t : TableId) (l : List (Player ⊤ ℕ)) (a : pass.turn ≡ t) (b : pass.known.joined ≡ l). subst (λ z. AreLent z (length l) jobs) a (subst (λ z. AreLent pass.turn (length z) jobs) b h.lent)) later.turn later.known.joined (sym on) (sym p.joined);
+    opening = p.opening ∙ h.opening;
+  },
+  (let c = p.calls in let j = ap (λ l. sum_by (λ (c : Player ⊤ ℕ). length c.calls) l) p.joined in omega arith),
+)
 
 back_has : (cs : List (Player ⊤ ℕ)) (n : ℕ) → AreBack cs → n < length cs → (c : Player ⊤ ℕ) × IsIn c cs × (c.name ≡ n ∷ [])
 back_has [] n b lt = absurd (omega arith)
