@@ -9,6 +9,9 @@ mod counter;
 mod players;
 mod under_mutex;
 
+#[cfg(test)]
+mod tests;
+
 use sp_base::NoMemory;
 use sp_io::{Runtime, Spawner, ThreadSpawner};
 use std::alloc::Global;

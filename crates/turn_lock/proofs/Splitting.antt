@@ -23,7 +23,7 @@ use Rattle.turn_lock.specs.History.{BeginsWith, entry, calls_by, longer, Runs, I
 use Rattle.turn_lock.specs.Passes.{IsIn, player, next_name, with_call, Has, HasName, IsWhole, beginner, counted, child, joining}
 use Rattle.turn_lock.specs.Rule.{Fits, IsAt, Apart, Below, Unknown, Kept, Knows, Took, Tried, Committed, Freed, holding, idle, called, spent, first_slot}
 use Rattle.turn_lock.proofs.Names.{same_name, other_name, in_append, in_left, in_right, begins_self, begins_more, nil_longer, snoc_extends, calls_snoc, calls_other, longer_begins}
-use Rattle.turn_lock.proofs.Views.{at_here, at_end, Covers, covers_self, Names, names_self, From, apart_from, below_from, unknown_from, same_set, back_set, each_set, reaches}
+use Rattle.turn_lock.proofs.Views.{kept_views, at_here, at_end, Covers, covers_self, Names, names_self, From, apart_from, below_from, unknown_from, same_set, back_set, each_set, reaches}
 
 module _ {O E R : Type 0} (step : O → E → R → O → Type 0) (o : O) where
   abbrev S : Type 0
@@ -155,18 +155,5 @@ module _ {O E R : Type 0} (step : O → E → R → O → Type 0) (o : O) where
           (at_end one c x j p.0)
 
       kept : Kept step o record { words = s.words; homes = s.homes; views = set s.views id w ++ c ∷ [] }
-      kept = record {
-        history = h.history;
-        now = h.now;
-        lock = h.lock;
-        holder = h.holder;
-        runs = h.runs;
-        words = h.words;
-        bit = h.bit;
-        home = h.home;
-        out = h.out;
-        seats = seats;
-        apart = apart;
-        below = below;
-        unknown = unknown_from (one ++ c ∷ []) s.views h.history (λ j u p. let x = back_set s.views id v w here live back j u p in (x.0, (at_longer one (c ∷ []) j x.0 x.1.0, x.1.1), x.2)) h.unknown;
-      }
+      kept = kept_views step o s h (set s.views id w ++ c ∷ []) seats apart below
+          (unknown_from (one ++ c ∷ []) s.views h.history (λ j u p. let x = back_set s.views id v w here live back j u p in (x.0, (at_longer one (c ∷ []) j x.0 x.1.0, x.1.1), x.2)) h.unknown)

@@ -6,14 +6,16 @@ use native.Mathlib.Decide.{ℕ_discrete}
 use lib.ListN.{get_elem?}
 use Rattle.atomic_table.proofs.Lists.{at_set, at_snoc, set_else, at_longer}
 use Rattle.std.proofs.lemmas.List.{append-nil, append_assoc}
+use Rattle.atomic_table.specs.Table.{State}
 use Rattle.turn_lock.specs.declared.view.Entry.{Entry}
 use Rattle.turn_lock.specs.declared.view.Player.{Player}
 use Rattle.turn_lock.specs.declared.view.Known.{Known}
 use Rattle.turn_lock.specs.declared.view.Stage.TheVariants.{Spent}
 use Rattle.turn_lock.specs.declared.view.View.{View}
+use Rattle.turn_lock.specs.declared.view.Slot.{Slot}
 use Rattle.turn_lock.specs.Passes.{IsIn, Has, HasName, IsWhole}
 use Rattle.turn_lock.specs.History.{calls_by}
-use Rattle.turn_lock.specs.Rule.{IsAt, Apart, Below, Unknown}
+use Rattle.turn_lock.specs.Rule.{Fits, IsAt, Apart, Below, Unknown, Kept}
 
 -- the last of a list that is one longer
 pub at_end : {A : Type 0} (l : List A) (a b : A) (j : ℕ) → get_elem? (l ++ a ∷ []) j ≡ some b → (get_elem? l j ≡ some b) ⊎ ((j ≡ length l) × (a ≡ b))
@@ -109,3 +111,23 @@ module _ {O E R : Type 0} where
       let next : HasName v.known (p ++ k ∷ []) = subst (λ l. HasName v.known (l ++ k ∷ [])) h.2 (whole.1 h.0 k h.1 lt) in
       let same : (p ++ k ∷ []) ++ more ≡ p ++ (k ∷ more) = append_assoc p (k ∷ []) more in
       subst (HasName v.known) same (reaches views id v below at whole j u atu a ha more (p ++ k ∷ []) next (e ∙ sym same))
+
+module _ {O E R : Type 0} (step : O → E → R → O → Type 0) (o : O) where
+  -- a step that changes nothing but what passes know
+  pub kept_views : (s : State (Slot O E R) (View O E R)) (h : Kept step o s) (views : List (View O E R)) → ((j : ℕ) (u : View O E R) → IsAt views j u → Fits o h.history h.now h.lock h.holder j u)
+      → Apart views → Below views → Unknown views h.history → Kept step o record { words = s.words; homes = s.homes; views = views }
+  kept_views s h views seats apart below unknown = record {
+    history = h.history;
+    now = h.now;
+    lock = h.lock;
+    holder = h.holder;
+    runs = h.runs;
+    words = h.words;
+    bit = h.bit;
+    home = h.home;
+    out = h.out;
+    seats = seats;
+    apart = apart;
+    below = below;
+    unknown = unknown;
+  }
