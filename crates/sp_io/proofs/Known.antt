@@ -1,7 +1,8 @@
--- Known bytes that move in several steps.
+-- Known bytes that move in several steps, and counts that rise in several.
 use Rattle.std.proofs.Common.{◌≡◌, ℕ, ◌+◌, ◌≤◌, List, ◌++◌, length, take, Option, Some, None, sym, ap, ◌∙◌, append_assoc, length-append, arith}
 use Rattle.std.specs.Io.KnownBytes.{Appends, Consumes, Keeps}
 use Rattle.std.proofs.Math.Seq.{take-append_seam}
+use Rattle.sp_io.specs.Causes.{raised, Rose}
 use Rattle.sp_io.specs.Whole.{TakesAtMost, AppendsFirst}
 
 -- two writes in a row are one of both pieces
@@ -35,3 +36,7 @@ pub appends_front : (a b d : Option (List ℕ)) (front rest bytes : List ℕ) �
 appends_front a b d front rest bytes whole put kept =
     let first : take (length front) bytes ≡ front = rw whole (take-append_seam front rest) in
     (length front, rw first (appends_keeps a b d front put kept))
+
+-- a count that rose from a later value rose from the first one too
+pub rose_later : (before mid now : ℕ) → before ≤ mid → Rose mid now → Rose before now
+rose_later before mid now later rose = omega arith

@@ -55,3 +55,13 @@ fresh_salt first fails = record { first = first; given = 0; fails = fails; calls
 -- the numbers that were drawn of it
 abbrev pub drawn_of : SaltState → List ℕ
 drawn_of salt = counted salt.first salt.given
+
+-- a spawner in memory: its calls, and those that hand their jobs back
+pub record SpawnerState : Type 0 where
+  pub fails : List ℕ
+  pub calls : ℕ
+  pub faults : ℕ
+
+-- a spawner whose calls of these numbers hand their jobs back
+abbrev pub fresh_spawner : List ℕ → SpawnerState
+fresh_spawner fails = record { fails = fails; calls = 0; faults = 0 }
