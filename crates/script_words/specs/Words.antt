@@ -30,6 +30,11 @@ words_from skip (b ∷ bs) =
 abbrev pub words_of : List ℕ → List (List ℕ)
 words_of line = words_from 0 line
 
+-- the first of some words; the empty one where there is none
+abbrev pub first_word : List (List ℕ) → List ℕ
+first_word [] = []
+first_word (word ∷ words) = word
+
 -- words, each behind a space
 abbrev pub spaced : List (List ℕ) → List ℕ
 spaced [] = []

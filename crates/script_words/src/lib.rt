@@ -23,4 +23,4 @@ pub use number::{number_of, numeral, signed_of, small_signed_of};
 pub use spelling::{put_number, put_quoted, put_signed};
 pub use splitting::{byte_at, first_place, pieces};
 pub use text::text_of;
-pub use word::{joined, words_of};
+pub use word::{first_word, joined, words_of};

@@ -1,5 +1,5 @@
 ghost use Rattle.std.specs.Prelude.{◌≡◌, ◌<◌, ◌≤◌, ◌+◌, ◌∷◌, IfOk, drop, length, map, slice_index, take};
-ghost use Rattle.script_words.specs.Words.{joined, plain_len, quoted_len, word_len, words_of};
+ghost use Rattle.script_words.specs.Words.{first_word, joined, plain_len, quoted_len, word_len, words_of};
 
 use sp_base::{NoMemory, Octets};
 use std::alloc::Global;
@@ -85,6 +85,21 @@ pub fn words_of(alloc: Global, line: &[u8]) -> Result<Vec<&[u8]>, NoMemory>
         skip = after;
     }
     Ok(words)
+}
+
+/// The first word of a line; the empty one where there is none.
+pub fn first_word(line: &[u8]) -> &[u8]
+    ensures { result.now ≡ first_word (words_of line.now) }
+{
+    for (i, b) in line.iter().enumerate() {
+        let b = *b;
+        if b == b' ' {
+            continue;
+        }
+        let (word, _) = word_at(line, i);
+        return word;
+    }
+    b"".as_slice()
 }
 
 /// The words with one space between each two. The only error is want of memory.
