@@ -47,8 +47,8 @@ made_rises : (made : Option Made) → Rises (made_parts made)
 made_rises None = tt
 made_rises (Some made) =
     slot_rises 4096 FIRST SECOND made.first (slot_part SECOND made.second) (omega arith) (omega arith) (omega arith)
-      (subst (RisesFrom SECOND) (no_more (slot_part SECOND made.second))
-        (slot_rises SECOND SECOND (SECOND + FIRST) made.second [] (omega arith) (omega arith) (omega arith) tt))
+    (subst (RisesFrom SECOND) (no_more (slot_part SECOND made.second))
+    (slot_rises SECOND SECOND (SECOND + FIRST) made.second [] (omega arith) (omega arith) (omega arith) tt))
 
 -- the parts of a line rise
 pub memory_rises : (text : List ℕ) → Rises (memory_of text)
@@ -56,7 +56,14 @@ memory_rises text = made_rises (line_made (call_words (words_of text)))
 
 part_one : (base : ℕ) (right : Right) (bytes : List ℕ) → length (part_of base right bytes) ≤ 1
 unfolding part_of
-part_one base right bytes = elim (length bytes == 0 || nat_lt FIRST (length bytes)) as (λ b. length (cond b [] (record { base = base; right = right; bytes = bytes } ∷ [])) ≤ 1) [ true ↦ omega arith | false ↦ omega arith ]
+part_one base right bytes = by_test (length bytes == 0 || nat_lt FIRST (length bytes))
+  where
+    one : Part
+    one = record { base = base; right = right; bytes = bytes }
+
+    by_test : (b : Bool) → length (cond b [] (one ∷ [])) ≤ 1
+    by_test true = omega arith
+    by_test false = omega arith
 
 slot_one : (base : ℕ) (slot : Slot) → length (slot_part base slot) ≤ 1
 slot_one base Nothing = omega arith

@@ -1,5 +1,5 @@
 -- Which line forks which guest.
-use Rattle.std.specs.Prelude.{ℕ, ◌+◌, ◌||◌, Bool, List, None, Option, Some, [], ◌∷◌, false, if◌then◌else◌, slice_get, suc, true}
+use Rattle.std.specs.Prelude.{ℕ, ◌+◌, Bool, List, None, Option, Some, [], ◌∷◌, false, if◌then◌else◌, slice_get, suc, true}
 use Rattle.std.specs.Option.{option_map}
 use Rattle.guest_language.specs.declared.script.Line.{Line}
 use Rattle.guest_language.specs.declared.script.Parent.{Parent}
@@ -34,22 +34,34 @@ parents_from all i (section ∷ sections) = parent_of all i ∷ parents_from all
 abbrev pub parents_of : List Section → List (Option Parent)
 parents_of sections = parents_from sections 0 sections
 
--- goes on from the section of a parent, where there is one
-abbrev pub up_from : Option (Option Parent) → (ℕ → Bool) → Bool
-up_from None go = false
-up_from (Some None) go = false
-up_from (Some (Some parent)) go = go parent.section
+-- what is held, if anything is
+abbrev pub held : {X : Type 0} → Option (Option X) → Option X
+held None = None
+held (Some inner) = inner
 
--- the way up from a section, from child to parent, has as many steps as the list of steps
-abbrev pub goes_up : List (Option Parent) → List (Option Parent) → ℕ → Bool
+-- the line that forks the section of a number, by the list of such lines
+unfoldable pub parent_at : List (Option Parent) → ℕ → Option Parent
+parent_at parents at = held (slice_get parents at)
+
+-- goes on from the section of a parent, where there is one
+abbrev pub up_from : Option Parent → (ℕ → Bool) → Bool
+up_from None go = false
+up_from (Some parent) go = go parent.section
+
+-- the way up from a section, from child to parent, has a step for each of these sections
+abbrev pub goes_up : List (Option Parent) → List Section → ℕ → Bool
 goes_up parents [] at = true
-goes_up parents (step ∷ steps) at = up_from (slice_get parents at) (λ next. goes_up parents steps next)
+goes_up parents (section ∷ sections) at = up_from (parent_at parents at) (λ next. goes_up parents sections next)
+
+-- the way up from a section has as many steps as there are sections
+unfoldable pub goes_round : List (Option Parent) → List Section → ℕ → Bool
+goes_round parents all at = goes_up parents all at
 
 -- the way up from one of the sections from number i on has as many steps as there are sections
-abbrev pub circle_from : List (Option Parent) → ℕ → List (Option Parent) → Bool
-circle_from parents i [] = false
-circle_from parents i (parent ∷ rest) = goes_up parents parents i || circle_from parents (i + 1) rest
+abbrev pub circle_from : List (Option Parent) → List Section → ℕ → List Section → Bool
+circle_from parents all i [] = false
+circle_from parents all i (section ∷ sections) = if goes_round parents all i then true else circle_from parents all (i + 1) sections
 
 -- a guest is forked by itself, or by one that it leads to: then the way up from it has no end
 abbrev pub has_circle : List Section → Bool
-has_circle sections = circle_from (parents_of sections) 0 (parents_of sections)
+has_circle sections = circle_from (parents_of sections) sections 0 sections

@@ -45,7 +45,6 @@ abbrev pub one_number : List (List ℕ) → Option ℕ
 one_number (n ∷ []) = number_of n
 one_number _ = None
 
-
 -- `FD LEN`, `FD FD`, `FD BACKLOG`
 abbrev pub two_numbers : List (List ℕ) → Option (ℕ × ℕ)
 two_numbers (n ∷ m ∷ []) = number_of n >>= (λ n. number_of m >>= (λ m. Some (n, m)))

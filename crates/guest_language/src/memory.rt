@@ -24,12 +24,7 @@ fn filled(alloc: Global, byte: u8, len: u64) -> Result<Octets, NoMemory>
 
 /// Adds a part, where it has bytes, and no more than lie before the next address.
 #[tactic(auto, unfolding(crate::specs::Memory::part_of))]
-fn put_part(
-    parts: &mut Items<Part>,
-    base: u64,
-    right: Right,
-    bytes: Octets,
-) -> Result<(), NoMemory>
+fn put_part(parts: &mut Items<Part>, base: u64, right: Right, bytes: Octets) -> Result<(), NoMemory>
     ensures { OnOk result (parts.new ≡ parts.old ++ part_of base right bytes) }
 {
     if bytes.is_empty() || bytes.len() as u64 > FIRST {
@@ -39,12 +34,7 @@ fn put_part(
 }
 
 /// Adds what lies at an address.
-fn put_slot(
-    alloc: Global,
-    parts: &mut Items<Part>,
-    base: u64,
-    slot: Slot,
-) -> Result<(), NoMemory>
+fn put_slot(alloc: Global, parts: &mut Items<Part>, base: u64, slot: Slot) -> Result<(), NoMemory>
     ensures { OnOk result (parts.new ≡ parts.old ++ slot_part base slot) }
 {
     match slot {
@@ -63,7 +53,7 @@ fn put_slot(
 }
 
 /// The words of a line's call, without `&`.
-fn call_words<'a, 'b>(words: &'b [&'a [u8]]) -> &'b [&'a [u8]]
+pub fn call_words<'a, 'b>(words: &'b [&'a [u8]]) -> &'b [&'a [u8]]
     ensures { map (λ w. w.now) result.now ≡ call_words (map (λ w. w.now) words.now) }
 {
     match words {

@@ -31,11 +31,9 @@ pub fn is_name(word: &[u8]) -> bool
 
 /// The name in the words of a line `guest NAME`.
 fn guest_name<'a>(words: &[&'a [u8]]) -> Option<&'a [u8]>
-    ensures {
-        MatchOption result
-            (guest_name (map (λ w. w.now) words.now) ≡ None)
-            (λ name. guest_name (map (λ w. w.now) words.now) ≡ Some name.now)
-    }
+    ensures { MatchOption result
+        (guest_name (map (λ w. w.now) words.now) ≡ None)
+        (λ name. guest_name (map (λ w. w.now) words.now) ≡ Some name.now) }
 {
     let [verb, name] = words else {
         return None;
@@ -48,9 +46,7 @@ fn guest_name<'a>(words: &[&'a [u8]]) -> Option<&'a [u8]>
 
 /// The names of all the lines `guest NAME`, in order. The only error is want of memory.
 pub fn names_of<'a>(alloc: Global, lines: &[&'a [u8]]) -> Result<Vec<&'a [u8]>, NoMemory>
-    ensures names {
-        IfOk result (λ names. map (λ w. w.now) names.items ≡ names_of (map (λ w. w.now) lines.now))
-    }
+    ensures names { IfOk result (λ names. map (λ w. w.now) names.items ≡ names_of (map (λ w. w.now) lines.now)) }
     ensures few { IfOk result (λ names. length names.items ≤ length lines.now) }
 {
     let mut names = Vec::new(alloc);

@@ -1,6 +1,7 @@
 //! A script's text, read line by line.
 ghost use Rattle.std.specs.Prelude.{◌≡◌, ◌⊎◌, ◌<◌, ◌≤◌, ◌+◌, ◌^◌, ◌++◌, [], ◌∷◌, Err, IfOk, MatchResult, Ok, OnOk, length, map};
 ghost use Rattle.std.specs.List.{list_all};
+ghost use Rattle.guest_language.specs.declared.script.Section.{Section};
 ghost use Rattle.guest_language.specs.Sections.{add_line, guest_step, is_printed, is_taken, line_of, step, steps, words_step};
 
 use crate::fault::{ScriptFault, ScriptKind};
@@ -37,10 +38,8 @@ fn add_section(
     name: &[u8],
     at: u32,
 ) -> Result<(), NoMemory>
-    ensures {
-        let section = record { name = name.now; at = at; lines = [] } in
-        OnOk result (sections.new.items ≡ sections.old.items ++ section ∷ [])
-    }
+    ensures { let section : Section = record { name = name.now; at = at; lines = [] } in
+        OnOk result (sections.new.items ≡ sections.old.items ++ section ∷ []) }
 {
     let name = Octets::of(alloc, name)?;
     sections.push(Section {
@@ -58,12 +57,10 @@ fn guest_step(
     at: u32,
     words: &[&[u8]],
 ) -> Result<(), ScriptKind>
-    ensures {
-        let next = guest_step sections.old.items at (map (λ w. w.now) words.now) in
+    ensures { let next = guest_step sections.old.items at (map (λ w. w.now) words.now) in
         MatchResult result
-            (λ _. next ≡ Ok sections.new.items)
-            (λ e. (e ≡ ScriptKind.NoMemory) ⊎ (next ≡ Err e))
-    }
+        (λ _. next ≡ Ok sections.new.items)
+        (λ e. (e ≡ ScriptKind.NoMemory) ⊎ (next ≡ Err e)) }
 {
     let [name] = words else {
         return Err(ScriptKind::BadWords);
@@ -81,12 +78,7 @@ fn guest_step(
 }
 
 /// A line of a guest.
-fn line_of(
-    alloc: Global,
-    at: u32,
-    words: &[&[u8]],
-    what: What,
-) -> Result<Line, NoMemory>
+fn line_of(alloc: Global, at: u32, words: &[&[u8]], what: What) -> Result<Line, NoMemory>
     ensures { IfOk result (λ line. line ≡ line_of at (map (λ w. w.now) words.now) what) }
 {
     let text = joined(alloc, words)?;
@@ -121,13 +113,11 @@ fn words_step(
     words: &[&[u8]],
 ) -> Result<(), ScriptKind>
     requires { length names.now < 2 ^ 32 }
-    ensures {
-        let names = map (λ w. w.now) names.now in
+    ensures { let names = map (λ w. w.now) names.now in
         let next = words_step names sections.old.items at (map (λ w. w.now) words.now) in
         MatchResult result
-            (λ _. next ≡ Ok sections.new.items)
-            (λ e. (e ≡ ScriptKind.NoMemory) ⊎ (next ≡ Err e))
-    }
+        (λ _. next ≡ Ok sections.new.items)
+        (λ e. (e ≡ ScriptKind.NoMemory) ⊎ (next ≡ Err e)) }
 {
     let [word, rest @ ..] = words else {
         return Ok(());
@@ -160,12 +150,10 @@ fn step(
     line: &[u8],
 ) -> Result<(), ScriptKind>
     requires { length names.now < 2 ^ 32 }
-    ensures {
-        let next = step (map (λ w. w.now) names.now) sections.old.items at line.now in
+    ensures { let next = step (map (λ w. w.now) names.now) sections.old.items at line.now in
         MatchResult result
-            (λ _. next ≡ Ok sections.new.items)
-            (λ e. (e ≡ ScriptKind.NoMemory) ⊎ (next ≡ Err e))
-    }
+        (λ _. next ≡ Ok sections.new.items)
+        (λ e. (e ≡ ScriptKind.NoMemory) ⊎ (next ≡ Err e)) }
 {
     if !is_printed(line) {
         return Err(ScriptKind::BadByte);
@@ -180,19 +168,13 @@ fn step(
 }
 
 /// The sections of a text's lines, of which the first has number 1.
-pub fn steps(
-    alloc: Global,
-    names: &[&[u8]],
-    lines: &[&[u8]],
-) -> Result<Vec<Section>, ScriptFault>
+pub fn steps(alloc: Global, names: &[&[u8]], lines: &[&[u8]]) -> Result<Vec<Section>, ScriptFault>
     requires names { length names.now < 2 ^ 32 }
     requires lines { length lines.now < 2 ^ 32 }
-    ensures {
-        let read = steps (map (λ w. w.now) names.now) [] 1 (map (λ w. w.now) lines.now) in
+    ensures { let read = steps (map (λ w. w.now) names.now) [] 1 (map (λ w. w.now) lines.now) in
         MatchResult result
-            (λ sections. read ≡ Ok sections.items)
-            (λ e. (e.kind ≡ ScriptKind.NoMemory) ⊎ (read ≡ Err e))
-    }
+        (λ sections. read ≡ Ok sections.items)
+        (λ e. (e.kind ≡ ScriptKind.NoMemory) ⊎ (read ≡ Err e)) }
 {
     let mut sections = Vec::new(alloc);
     let mut at: u32 = 0;

@@ -29,7 +29,7 @@ pub struct Line {
 /// The line of a fork: its section's number, and its own among the section's lines, both from 0.
 #[derive(Clone, Copy, Debug, PartialEq, Eq)]
 pub struct Parent {
-    pub section: u32,
+    pub section: usize,
     pub line: usize,
 }
 

@@ -30,11 +30,7 @@ pub fn path_line(alloc: Global, call: Call, words: &[&[u8]]) -> Result<Option<Ma
 }
 
 /// `TEXT TEXT`, two paths.
-pub fn two_paths_line(
-    alloc: Global,
-    call: Call,
-    words: &[&[u8]],
-) -> Result<Option<Made>, NoMemory>
+pub fn two_paths_line(alloc: Global, call: Call, words: &[&[u8]]) -> Result<Option<Made>, NoMemory>
     ensures { IfOk result (λ found. found ≡ two_paths_line call (map (λ w. w.now) words.now)) }
 {
     let [path, other] = words else {
@@ -103,7 +99,11 @@ fn sized_write(fd: u64, word: &[u8], len: u64) -> Option<Made>
         return Some(Made::with_first(call, Slot::Filled(len)));
     }
     if word == b"bad".as_slice() {
-        return Some(Made::plain(Call::Write { fd, input: BAD, len }));
+        return Some(Made::plain(Call::Write {
+            fd,
+            input: BAD,
+            len,
+        }));
     }
     None
 }

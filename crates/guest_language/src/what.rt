@@ -1,6 +1,6 @@
 //! What the words of a line ask for.
 ghost use Rattle.std.specs.Prelude.{◌≡◌, ◌⊎◌, ◌<◌, ◌^◌, Err, MatchResult, Ok, length, map};
-ghost use Rattle.guest_language.specs.What.{aside_what, child_aside, fork_what, forks, has_fork, in_background, is_forked, line_what, only_line, verb_aside, verb_what, what_of};
+ghost use Rattle.guest_language.specs.What.{aside_what, child_aside, fork_what, forks, has_fork, in_background, is_forked, line_what, only_aside, only_line, verb_aside, verb_what, what_of};
 
 use crate::call_line::made_of;
 use crate::fault::ScriptKind;
@@ -11,17 +11,17 @@ use sp_base::NoMemory;
 use std::alloc::Global;
 
 /// Whether it is a fork of the section of a number.
-fn forks(child: u32, what: &What) -> bool
+fn forks(child: usize, what: &What) -> bool
     ensures { result ≡ forks child what.now }
 {
     match what {
-        What::Fork(n) => *n == child,
+        What::Fork(n) => *n as usize == child,
         What::Run(_) | What::Exec | What::Join => false,
     }
 }
 
 /// Whether one of the lines forks the section of a number.
-fn has_fork(child: u32, lines: &[Line]) -> bool
+fn has_fork(child: usize, lines: &[Line]) -> bool
     ensures { result ≡ has_fork child lines.now }
 {
     for line in lines {
@@ -33,7 +33,7 @@ fn has_fork(child: u32, lines: &[Line]) -> bool
 }
 
 /// Whether a line of the sections forks the section of a number.
-fn is_forked(child: u32, sections: &[Section]) -> bool
+fn is_forked(child: usize, sections: &[Section]) -> bool
     ensures { result ≡ is_forked child sections.now }
 {
     for section in sections {
@@ -58,11 +58,10 @@ fn fork_what(names: &[&[u8]], sections: &[Section], words: &[&[u8]]) -> Result<W
     let Some(i) = place_of(names, name) else {
         return Err(ScriptKind::UnknownGuest);
     };
-    let child = i as u32;
-    if is_forked(child, sections) {
+    if is_forked(i, sections) {
         return Err(ScriptKind::ForkedTwice);
     }
-    Ok(What::Fork(child))
+    Ok(What::Fork(i as u32))
 }
 
 /// `exec`, `join`: no words.
@@ -78,10 +77,8 @@ fn only_line(what: What, words: &[&[u8]]) -> Result<What, ScriptKind>
 
 /// The call of a line.
 fn verb_what(alloc: Global, word: &[u8], words: &[&[u8]]) -> Result<What, ScriptKind>
-    ensures {
-        let says = verb_what word.now (map (λ w. w.now) words.now) in
-        MatchResult result (λ what. says ≡ Ok what) (λ e. (e ≡ ScriptKind.NoMemory) ⊎ (says ≡ Err e))
-    }
+    ensures { let says = verb_what word.now (map (λ w. w.now) words.now) in
+        MatchResult result (λ what. says ≡ Ok what) (λ e. (e ≡ ScriptKind.NoMemory) ⊎ (says ≡ Err e)) }
 {
     let Some(verb) = verb_of(word) else {
         return Err(ScriptKind::UnknownCall);
@@ -101,10 +98,8 @@ fn line_what(
     words: &[&[u8]],
 ) -> Result<What, ScriptKind>
     requires { length names.now < 2 ^ 32 }
-    ensures {
-        let says = line_what (map (λ w. w.now) names.now) sections.now (map (λ w. w.now) words.now) in
-        MatchResult result (λ what. says ≡ Ok what) (λ e. (e ≡ ScriptKind.NoMemory) ⊎ (says ≡ Err e))
-    }
+    ensures { let says = line_what (map (λ w. w.now) names.now) sections.now (map (λ w. w.now) words.now) in
+        MatchResult result (λ what. says ≡ Ok what) (λ e. (e ≡ ScriptKind.NoMemory) ⊎ (says ≡ Err e)) }
 {
     let [word, rest @ ..] = words else {
         return Err(ScriptKind::BadWords);
@@ -126,12 +121,8 @@ fn in_background(verb: Verb) -> bool
     ensures { result ≡ in_background verb }
 {
     match verb {
-        Verb::Read
-        | Verb::Write
-        | Verb::Pread
-        | Verb::Pwrite
-        | Verb::Recvfrom
-        | Verb::Sendto => true,
+        Verb::Read | Verb::Write | Verb::Pread | Verb::Pwrite | Verb::Recvfrom | Verb::Sendto =>
+            true,
         _ => false,
     }
 }
@@ -150,12 +141,21 @@ fn child_aside(words: &[&[u8]]) -> ScriptKind
     }
 }
 
+/// The fault of `& exec` and `& join`.
+fn only_aside(words: &[&[u8]]) -> ScriptKind
+    ensures { result ≡ only_aside (map (λ w. w.now) words.now) }
+{
+    if words.is_empty() {
+        ScriptKind::NotInBackground
+    } else {
+        ScriptKind::BadWords
+    }
+}
+
 /// The call of a line behind `&`.
 fn verb_aside(alloc: Global, word: &[u8], words: &[&[u8]]) -> Result<What, ScriptKind>
-    ensures {
-        let says = verb_aside word.now (map (λ w. w.now) words.now) in
-        MatchResult result (λ what. says ≡ Ok what) (λ e. (e ≡ ScriptKind.NoMemory) ⊎ (says ≡ Err e))
-    }
+    ensures { let says = verb_aside word.now (map (λ w. w.now) words.now) in
+        MatchResult result (λ what. says ≡ Ok what) (λ e. (e ≡ ScriptKind.NoMemory) ⊎ (says ≡ Err e)) }
 {
     let Some(verb) = verb_of(word) else {
         return Err(ScriptKind::UnknownCall);
@@ -174,10 +174,8 @@ fn verb_aside(alloc: Global, word: &[u8], words: &[&[u8]]) -> Result<What, Scrip
 
 /// What the words behind `&` ask for.
 fn aside_what(alloc: Global, words: &[&[u8]]) -> Result<What, ScriptKind>
-    ensures {
-        let says = aside_what (map (λ w. w.now) words.now) in
-        MatchResult result (λ what. says ≡ Ok what) (λ e. (e ≡ ScriptKind.NoMemory) ⊎ (says ≡ Err e))
-    }
+    ensures { let says = aside_what (map (λ w. w.now) words.now) in
+        MatchResult result (λ what. says ≡ Ok what) (λ e. (e ≡ ScriptKind.NoMemory) ⊎ (says ≡ Err e)) }
 {
     let [word, rest @ ..] = words else {
         return Err(ScriptKind::BadWords);
@@ -186,10 +184,7 @@ fn aside_what(alloc: Global, words: &[&[u8]]) -> Result<What, ScriptKind>
         return Err(child_aside(rest));
     }
     if *word == b"exec".as_slice() || *word == b"join".as_slice() {
-        if rest.is_empty() {
-            return Err(ScriptKind::NotInBackground);
-        }
-        return Err(ScriptKind::BadWords);
+        return Err(only_aside(rest));
     }
     verb_aside(alloc, word, rest)
 }
@@ -202,10 +197,8 @@ pub fn what_of(
     words: &[&[u8]],
 ) -> Result<What, ScriptKind>
     requires { length names.now < 2 ^ 32 }
-    ensures {
-        let says = what_of (map (λ w. w.now) names.now) sections.now (map (λ w. w.now) words.now) in
-        MatchResult result (λ what. says ≡ Ok what) (λ e. (e ≡ ScriptKind.NoMemory) ⊎ (says ≡ Err e))
-    }
+    ensures { let says = what_of (map (λ w. w.now) names.now) sections.now (map (λ w. w.now) words.now) in
+        MatchResult result (λ what. says ≡ Ok what) (λ e. (e ≡ ScriptKind.NoMemory) ⊎ (says ≡ Err e)) }
 {
     let [word, rest @ ..] = words else {
         return Err(ScriptKind::BadWords);

@@ -1,6 +1,6 @@
 //! A script as a whole.
-ghost use Rattle.std.specs.Prelude.{◌≡◌, ◌⊎◌, ◌<◌, ◌^◌, Err, MatchResult, Ok, length};
-ghost use Rattle.guest_language.specs.Forks.{has_circle, parent_of};
+ghost use Rattle.std.specs.Prelude.{◌≡◌, ◌⊎◌, Err, MatchResult, Ok};
+ghost use Rattle.guest_language.specs.Forks.{parent_of};
 ghost use Rattle.guest_language.specs.Script.{script_of};
 
 use crate::fault::{ScriptFault, ScriptKind, of_the_whole};
@@ -20,7 +20,7 @@ pub struct Script {
 }
 
 impl Model for Script {
-    ghost use Rattle.std.specs.Prelude.{◌≡◌, ◌<◌, ◌^◌, List, false, length};
+    ghost use Rattle.std.specs.Prelude.{◌≡◌, List, false};
     ghost use Rattle.guest_language.specs.declared.script.Section.{Section};
     ghost use Rattle.guest_language.specs.Forks.{has_circle};
 
@@ -28,7 +28,7 @@ impl Model for Script {
 
     ghost view = { λ s. s.sections.items };
 
-    ghost invariant = { λ s. (length s.sections.items < 2 ^ 32) × (has_circle s.sections.items ≡ false) };
+    ghost invariant = { λ s. has_circle s.sections.items ≡ false };
 }
 
 impl Script {
@@ -37,12 +37,10 @@ impl Script {
     /// A text that is too long is refused before all else, and a fork in a circle after the faults
     /// of every line; both have the line 0. Of several faulty lines the first is named.
     pub fn read(alloc: Global, text: &[u8]) -> Result<Script, ScriptFault>
-        ensures {
-            let read = script_of text.now in
+        ensures { let read = script_of text.now in
             MatchResult result
-                (λ script. read ≡ Ok script)
-                (λ e. (e.kind ≡ ScriptKind.NoMemory) ⊎ (read ≡ Err e))
-        }
+            (λ script. read ≡ Ok script)
+            (λ e. (e.kind ≡ ScriptKind.NoMemory) ⊎ (read ≡ Err e)) }
     {
         if is_long(text) {
             return Err(of_the_whole(ScriptKind::TooLong));
@@ -75,6 +73,6 @@ impl Script {
     pub fn parent(&self, child: u32) -> Option<Parent>
         ensures { result ≡ parent_of self.now child }
     {
-        parent_of(self.sections.as_slice(), child)
+        parent_of(self.sections.as_slice(), child as usize)
     }
 }

@@ -10,6 +10,8 @@ mod laws;
 mod number;
 mod spelling;
 mod splitting;
+#[cfg(test)]
+mod tests;
 mod text;
 mod word;
 

@@ -3,4 +3,4 @@ use Rattle.guest_language.specs.Forks.{circle_from}
 use Rattle.guest_language.proofs.forks.circle_in.Given as goal
 
 abbrev pub invariant-loop-i : goal.invariant-loop-i
-invariant-loop-i l = circle_from l.parents l.i (drop l.i l.parents) ≡ circle_from l.parents 0 l.parents
+invariant-loop-i l = circle_from l.parents l.sections l.i (drop l.i l.sections) ≡ circle_from l.parents l.sections 0 l.sections
