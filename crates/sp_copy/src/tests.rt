@@ -1,4 +1,6 @@
 // Which parts are a memory, what is read at the edges of parts, and where a write or a delivery fits.
+ghost use Rattle.std.specs.Prelude.{◌<◌, ◌^◌, length};
+
 use crate::{
     CopyFault, Delivery, Mem, MemFault, NotWritable, Part, Placed, Right, deliver, gather,
 };
@@ -10,15 +12,14 @@ use std::test::Fail;
 type PartRow = (u64, Right, &'static str);
 
 /// The memory of the rows.
-fn memory(alloc: Global, rows: &[PartRow]) -> Result<Result<Mem, MemFault>, Fail> {
+fn memory(alloc: Global, rows: &[PartRow]) -> Result<Result<Mem, MemFault>, Fail>
+    requires { length rows.now < 2 ^ 32 }
+{
     let mut parts = Items::none(alloc);
-    for (base, right, text) in rows {
+    for row in rows {
+        let (base, right, text) = *row;
         let bytes = Octets::of(alloc, text.as_bytes())?;
-        parts.push(Part {
-            base: *base,
-            right: *right,
-            bytes,
-        })?;
+        parts.push(Part { base, right, bytes })?;
     }
     Ok(Mem::new(alloc, parts))
 }

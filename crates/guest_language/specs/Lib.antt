@@ -1,0 +1,9 @@
+pub mod Verbs
+pub mod Made
+pub mod Names
+pub mod Length
+pub mod What
+pub mod Sections
+pub mod Forks
+pub mod Script
+pub mod Memory

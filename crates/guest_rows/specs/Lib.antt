@@ -1,0 +1,4 @@
+pub mod Fields
+pub mod Answered
+pub mod Added
+pub mod Rows

@@ -1,0 +1,9 @@
+//! The rows that tell how a guest's lines went.
+#![tactic(auto)]
+
+mod added;
+mod answered;
+mod field;
+mod row;
+
+pub use row::{Row, RowResult, SideName, row_text};

@@ -1,0 +1,9 @@
+pub mod Steps
+pub mod Words
+pub mod Pieces
+pub mod Numbers
+pub mod Texts
+pub mod Spelling
+pub mod Flags
+pub mod Addresses
+pub mod Events
