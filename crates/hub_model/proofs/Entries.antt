@@ -1,0 +1,98 @@
+-- The next entry of a journal, and which processes are live after it.
+use Rattle.std.proofs.Common.{◌≡◌, ◌≢◌, ℕ, zero, suc, ◌<◌, List, [], ◌∷◌, ◌++◌, length, Option, Some, None, IsSome, refl, sym, ap, subst, ◌∙◌}
+use Rattle.std.specs.Prelude.{slice_set, is_some}
+use Rattle.sp_base.specs.Table.{at, lowest_unused}
+use Rattle.sp_base.specs.declared.call.Call.{Call}
+use Rattle.sp_base.specs.declared.limits.TheConstants.{FIRST_PROCESS}
+use Rattle.sp_base.specs.declared.names.Pid.{Pid}
+use Rattle.sp_base.proofs.TableLaws.{at_within, lowest_unused_is}
+use Rattle.kern_model.specs.declared.journal.Entry.{Entry}
+use Rattle.kern_model.specs.declared.journal.Who.{Who}
+use Rattle.kern_model.specs.declared.operation.Ins.{Ins}
+use Rattle.kern_model.specs.declared.operation.Op.{Op}
+use Rattle.kern_model.specs.declared.operation.Op.TheVariants.{Sys}
+use Rattle.kern_model.specs.declared.outcome.Outcome.{Outcome}
+use Rattle.kern_model.specs.Act.{act}
+use Rattle.kern_model.specs.Descriptors.{act_attach, act_exit}
+use Rattle.kern_model.specs.Journal.{FitsPid, Follows, state_after, entry_of_step, next_entry}
+use Rattle.kern_model.specs.Needs.{FitsIns}
+use Rattle.kern_model.specs.Outcome.{success}
+use Rattle.kern_model.specs.State.{State, Process, fresh_process, with_process}
+use Rattle.kern_model.specs.Step.{Step, answered}
+use Rattle.kern_model.proofs.Journals.{entry, state_after-push, after_entry-entry, follows_by}
+use Rattle.kern_model.proofs.Lemmas.{each_is, call_keeps, exit_ends}
+
+-- an operation's entry, with the state after it
+pub record Nexts (journal : List Entry) (pid : Pid) (who : Who) (op : Op) (ins : Ins) (e : Entry) : Type 0 where
+  pub next : State
+  pub acts : act (state_after journal) pid.0 op ins ≡ Some (e.outcome, next)
+  pub state : state_after (journal ++ e ∷ []) ≡ next
+  pub is : e ≡ entry pid who op ins e.outcome
+
+nexts_by : (journal : List Entry) (pid : Pid) (who : Who) (op : Op) (ins : Ins) (e : Entry) (step : Step) → act (state_after journal) pid.0 op ins ≡ step → entry_of_step pid who op ins step ≡ Some e → Nexts journal pid who op ins e
+nexts_by journal pid who op ins e None acts h = absurd cc
+nexts_by journal pid who op ins e (Some step) acts h =
+    let same : entry pid who op ins step.0 ≡ e = cc in
+    subst (λ (e : Entry). Nexts journal pid who op ins e) same (record {
+      next = step.1;
+      acts = acts;
+      state = state_after-push journal (entry pid who op ins step.0) ∙ after_entry-entry (state_after journal) step.1 pid who op ins step.0 acts;
+      is = refl;
+    })
+
+pub nexts : (journal : List Entry) (pid : Pid) (who : Who) (op : Op) (ins : Ins) (e : Entry) → next_entry journal pid who op ins ≡ Some e → Nexts journal pid who op ins e
+nexts journal pid who op ins e h = nexts_by journal pid who op ins e (act (state_after journal) pid.0 op ins) refl h
+
+-- the entry follows the journal, where its process and its ins fit
+pub next_follows : (journal : List Entry) (pid : Pid) (who : Who) (op : Op) (ins : Ins) (e : Entry) → Nexts journal pid who op ins e
+    → FitsPid (state_after journal) pid.0 op → FitsIns op ins → Follows (state_after journal) e
+next_follows journal pid who op ins e n process fits =
+    subst (λ (f : Entry). Follows (state_after journal) f) (sym n.is) (follows_by (state_after journal) n.next pid who op ins e.outcome process fits n.acts)
+
+-- the entry is by its key
+pub next_who : (journal : List Entry) (pid : Pid) (who : Who) (op : Op) (ins : Ins) (e : Entry) → Nexts journal pid who op ins e → e.who ≡ who
+next_who journal pid who op ins e n = ap (λ (f : Entry). f.who) n.is
+
+-- ---- which processes are live
+
+live_put : {X : Type 0} (table : List (Option X)) (n : ℕ) (x : X) (q : ℕ) → IsSome (at table q) → IsSome (at (slice_set table n (Some x)) q)
+live_put [] n x q h = h
+live_put (y ∷ table) zero x zero h = refl
+live_put (y ∷ table) zero x (suc q) h = h
+live_put (y ∷ table) (suc n) x zero h = h
+live_put (y ∷ table) (suc n) x (suc q) h = live_put table n x q h
+
+put_live : {X : Type 0} (table : List (Option X)) (n : ℕ) (x : X) → n < length table → IsSome (at (slice_set table n (Some x)) n)
+put_live {X = X} table n x lt = ap (λ (o : Option X). is_some o) (at_within table n (Some x) lt)
+
+-- an attach where a number is unused: the lowest one
+attach_does : (s : State) (n : ℕ) (outcome : Outcome) (t : State) → lowest_unused s.processes FIRST_PROCESS ≡ Some n → act_attach s ≡ Some (outcome, t) → (outcome ≡ success n) × (t ≡ with_process s n (Some fresh_process))
+attach_does s n outcome t low h =
+    let g : answered n (with_process s n (Some fresh_process)) ≡ Some (outcome, t) = rw low at h in
+    each_is (λ o u. (o ≡ success n) × (u ≡ with_process s n (Some fresh_process))) (answered n (with_process s n (Some fresh_process))) outcome t (refl, refl) g
+
+-- what an attach makes of the processes, where a number is unused
+pub record Attached (s : State) (outcome : Outcome) (t : State) : Type 0 where
+  pub unused : at s.processes outcome.ret0 ≡ None
+  pub made : IsSome (at t.processes outcome.ret0)
+  pub live : (q : ℕ) → IsSome (at s.processes q) → IsSome (at t.processes q)
+
+pub attached : (s : State) (n : ℕ) (outcome : Outcome) (t : State) → lowest_unused s.processes FIRST_PROCESS ≡ Some n → act_attach s ≡ Some (outcome, t) → Attached s outcome t
+attached s n outcome t low h =
+    let does = attach_does s n outcome t low h in
+    let is = lowest_unused_is s.processes FIRST_PROCESS n low in
+    let value : n ≡ outcome.ret0 = sym (ap (λ (o : Outcome). o.ret0) does.0) in
+    let after : t.processes ≡ slice_set s.processes n (Some fresh_process) = ap (λ (u : State). u.processes) does.1 in
+    record {
+      unused = subst (λ (k : ℕ). at s.processes k ≡ None) value is.1;
+      made = subst (λ (k : ℕ). IsSome (at t.processes k)) value (subst (λ (l : List (Option Process)). IsSome (at l n)) (sym after) (put_live s.processes n fresh_process is.0));
+      live = λ q live. subst (λ (l : List (Option Process)). IsSome (at l q)) (sym after) (live_put s.processes n fresh_process q live);
+    }
+
+-- a call leaves every process live
+pub call_live : (s : State) (pid : ℕ) (call : Call) (ins : Ins) (outcome : Outcome) (t : State) (q : ℕ) → act s pid (Sys call) ins ≡ Some (outcome, t) → IsSome (at s.processes q) → IsSome (at t.processes q)
+call_live s pid call ins outcome t q h live = (call_keeps s pid call ins outcome t h).1.live q ∙ live
+
+-- an exit leaves every other process live
+pub exit_live : (s : State) (pid : ℕ) (outcome : Outcome) (t : State) (q : ℕ) → act_exit s pid ≡ Some (outcome, t) → q ≢ pid → IsSome (at s.processes q) → IsSome (at t.processes q)
+exit_live s pid outcome t q h ne live = ap (λ (o : Option Process). is_some o) ((exit_ends s pid outcome t h).others q ne) ∙ live

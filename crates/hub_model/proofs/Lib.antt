@@ -1,0 +1,6 @@
+pub mod Maps
+pub mod Keeps
+pub mod Entries
+pub mod Verdicts
+pub mod Steps
+pub mod Sound

@@ -1,0 +1,10 @@
+pub mod State
+pub mod Code
+pub mod Verdict
+pub mod Frames
+pub mod Ends
+pub mod Requests
+pub mod Work
+pub mod Machine
+pub mod Run
+pub mod Sound

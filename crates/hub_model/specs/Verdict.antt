@@ -1,0 +1,102 @@
+-- What becomes of a frame: the first case that applies, in the order written.
+use Rattle.std.specs.Prelude.{ℕ, ◌==◌, nat_le, nat_lt, not, ◌&&◌, ◌||◌, Bool, true, false, List, length, Option, None, Some, is_none, slice_get, if◌then◌else◌}
+use Rattle.std.specs.FinMap.{get, len}
+use Rattle.sp_base.specs.Call.{wanted_words, call_of}
+use Rattle.sp_base.specs.Needs.{needs_of}
+use Rattle.sp_base.specs.Table.{lowest_unused}
+use Rattle.sp_base.specs.declared.errno.Errno.TheVariants.{Efault, Enametoolong}
+use Rattle.sp_base.specs.declared.limits.TheConstants.{FIRST_PROCESS}
+use Rattle.sp_base.specs.declared.names.SpError.TheVariants.{TryAgain, ProcFull, InExec}
+use Rattle.sp_base.specs.declared.need.Need.{Need}
+use Rattle.sp_base.specs.declared.need.Need.TheVariants.{Bytes, Text}
+use Rattle.sp_frames.specs.Grammar.{is_answer, is_text_answer}
+use Rattle.sp_frames.specs.declared.frame.Body.{Body}
+use Rattle.sp_frames.specs.declared.frame.Body.TheVariants.{Guest, Sys, GotBytes, GotText}
+use Rattle.sp_frames.specs.declared.frame.Frame.{Frame}
+use Rattle.kern_model.specs.State.{State}
+use Rattle.hub_model.specs.State.{Connection, is_live, is_fresh, is_draining}
+use Rattle.hub_model.specs.declared.state.OpenCall.{OpenCall}
+use Rattle.hub_model.specs.declared.state.OpenCall.TheVariants.{Gathers}
+use Rattle.hub_model.specs.declared.state.TheConstants.{OPEN_CALLS}
+use Rattle.hub_model.specs.declared.verdict.Verdict.{Verdict}
+use Rattle.hub_model.specs.declared.verdict.Verdict.TheVariants.{Closed, Malformed, Refused, Attach, Task, Copy, CopyFault}
+
+-- the number takes a count of words that isn't this one
+abbrev pub is_other_count : Option ℕ → ℕ → Bool
+is_other_count None count = false
+is_other_count (Some want) count = not (want == count)
+
+-- the calls of pipes, sockets and poll, which the server doesn't take by now
+abbrev pub is_later_call : ℕ → Bool
+is_later_call num = nat_le 21 num && nat_le num 33
+
+-- a system call
+abbrev pub call_verdict : Connection → ℕ → List ℕ → Verdict
+call_verdict x num words =
+    if is_fresh x.condition then Malformed
+    else if is_other_count (wanted_words num) (length words) then Malformed
+    else if is_later_call num then Malformed
+    else if not (is_live x.condition) then Refused InExec
+    else if nat_le OPEN_CALLS (len x.calls) then Refused TryAgain
+    else Task (call_of num words)
+
+-- a handshake
+abbrev pub guest_verdict : State → Connection → Verdict
+guest_verdict s x =
+    if not (is_fresh x.condition) then Malformed
+    else if is_none (lowest_unused s.processes FIRST_PROCESS) then Refused ProcFull
+    else Attach
+
+-- a request, whose number must be above the last one
+abbrev pub request_verdict : Connection → ℕ → Verdict → Verdict
+request_verdict x n verdict = if nat_le n x.last then Malformed else verdict
+
+-- a copy is of what was asked for, and within its row: all of the bytes, or a text below its limit; or none, with an error
+abbrev pub is_copy_of : Need → Body → Bool
+is_copy_of (Bytes addr bytes_len) (GotBytes index err bytes) = is_answer err bytes && (not (err == 0) || (length bytes == bytes_len))
+is_copy_of (Text addr limit) (GotText index err bytes) = is_text_answer err bytes && nat_lt (length bytes) limit
+is_copy_of need body = false
+
+-- the index that a copy names
+abbrev pub index_in : Body → Option ℕ
+index_in (GotBytes index err bytes) = Some index
+index_in (GotText index err bytes) = Some index
+index_in _ = None
+
+-- the error number that a copy carries, 0 for none
+abbrev pub error_in : Body → ℕ
+error_in (GotBytes index err bytes) = err
+error_in (GotText index err bytes) = err
+error_in _ = 0
+
+-- a copy, by its error number
+abbrev pub copy_by_error : ℕ → Verdict
+copy_by_error err = if err == 0 then Copy else if err == 14 then CopyFault Efault else CopyFault Enametoolong
+
+-- an index is this one
+abbrev pub is_index : Option ℕ → ℕ → Bool
+is_index None count = false
+is_index (Some index) count = index == count
+
+-- a copy of what a call reads, where the need of its index was asked for
+abbrev pub need_verdict : Option Need → ℕ → Body → Verdict
+need_verdict None index body = Malformed
+need_verdict (Some need) index body =
+    if is_index (index_in body) index && is_copy_of need body then copy_by_error (error_in body) else Malformed
+
+-- a copy for a call, which must have an ask that is out
+abbrev pub copy_verdict : Option OpenCall → Body → Verdict
+copy_verdict (Some (Gathers call got true)) body = need_verdict (slice_get (needs_of call) (length got)) (length got) body
+copy_verdict _ body = Malformed
+
+-- a frame by its body; a client sends no other type, or the server doesn't know it by now
+abbrev pub body_verdict : State → Connection → ℕ → Body → Verdict
+body_verdict s x n (Guest name) = request_verdict x n (guest_verdict s x)
+body_verdict s x n (Sys num words) = request_verdict x n (call_verdict x num words)
+body_verdict s x n (GotBytes index err bytes) = copy_verdict (get x.calls n) (GotBytes index err bytes)
+body_verdict s x n (GotText index err bytes) = copy_verdict (get x.calls n) (GotText index err bytes)
+body_verdict s x n _ = Malformed
+
+-- a frame
+abbrev pub verdict_of : State → Connection → Frame → Verdict
+verdict_of s x f = if is_draining x.condition then Closed else body_verdict s x f.number.0 f.body
