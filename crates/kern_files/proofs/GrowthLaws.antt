@@ -1,7 +1,6 @@
 -- Directories stay when a node or a name comes.
-use Rattle.std.specs.Prelude.{IsSome, IsTrue, is_some}
-use Rattle.std.proofs.Common.{◌≡◌, ◌≢◌, cond, ℕ, ◌<◌, Bool, true, false, List, [], ◌∷◌, ◌++◌, length, get_or, set, Option, None, Some, refl, sym, ap, subst, ◌∙◌, arith}
-use Rattle.std.proofs.lemmas.Bool.{true≢false}
+use Rattle.std.specs.Prelude.{IsSome, is_some}
+use Rattle.std.proofs.Common.{◌≡◌, cond, ℕ, Bool, true, false, [], ◌∷◌, ◌++◌, length, get_or, Option, None, Some, refl, sym, ap, ◌∙◌, arith}
 use Rattle.std.proofs.Math.Seq.{get_or-append_seam}
 use Rattle.std.specs.FinMap.{get, insert, get-insert}
 use Rattle.sp_base.specs.declared.errno.Errno.{Errno}

@@ -1,6 +1,6 @@
 -- What a rename comes to, by what stands under the two paths.
 use Rattle.std.specs.Prelude.{◌↔◌, ◌==◌, IsTrue, is_some}
-use Rattle.std.proofs.Common.{◌≡◌, ◌≢◌, cond, ℕ, Bool, true, false, not, ◌&&◌, List, [], ◌∷◌, ◌++◌, Option, None, Some, refl, sym, ap, subst, ◌∙◌, arith}
+use Rattle.std.proofs.Common.{◌≡◌, ◌≢◌, cond, ℕ, Bool, true, false, not, ◌&&◌, List, [], ◌∷◌, Option, None, Some, refl, sym, ap, subst, ◌∙◌, arith}
 use Rattle.std.proofs.lemmas.Bool.{eq-eqb, true≢false}
 use Rattle.std.specs.Option.{option_map}
 use Rattle.std.specs.FinMap.{get, remove, get-remove}
@@ -10,9 +10,10 @@ use Rattle.kern_model.specs.Name.{Path, has_entries, below, is_same_path}
 use Rattle.kern_model.specs.State.{is_directory}
 use Rattle.kern_model.specs.Links.{is_below}
 use Rattle.kern_model.proofs.NamesLaws.{paths_total}
-use Rattle.kern_model.proofs.BelowLaws.{same_test, other_test, path_from_test, below_is}
-use Rattle.kern_names.specs.Tree.{Tree, has_directory}
-use Rattle.kern_names.proofs.ShownLaws.{not_longer, same_node}
+use Rattle.kern_model.proofs.BelowLaws.{same_test, other_test, path_from_test}
+use Rattle.kern_names.specs.Tree.{IsWhole, Tree, has_directory}
+use Rattle.kern_names.proofs.AboveLaws.{below_child}
+use Rattle.kern_names.proofs.ShownLaws.{same_node}
 use Rattle.kern_names.proofs.CountLaws.{count_remove}
 use Rattle.kern_nodes.specs.NodeTable.{NodeTable}
 use Rattle.kern_files.specs.Files.{Files, state_of, rename_error, rename_error_of, move_error, replace_error, renamed_to, without_name, moved}
@@ -59,23 +60,29 @@ one_name from to old_name new_name path above false shows directory at into iff 
     let node : from ≡ to = same_node (sym at ∙ ap (get _) rest ∙ into) in
     true≢false (sym (iff.1 (node, first))))
 
--- a name is below a path exactly where its directory is that or below it
-pub inside_is : (name : List ℕ) (above old : Path) → is_below (name ∷ above) old ≡ is_some (below above old)
-inside_is name above old = elim (is_same_path (name ∷ above) old) as (λ b. is_same_path (name ∷ above) old ≡ b → (is_some (cond b (Some []) (option_map (λ rest. name ∷ rest) (below above old))) && not b) ≡ is_some (below above old)) [
-  | true ↦ λ t. (elim (below above old) as (λ o. below above old ≡ o → false ≡ is_some o) [
-    | None ↦ λ e. refl
-    | Some r ↦ λ e. absurd (not_longer above r name (below_is old above r e ∙ ap (λ (q : Path). r ++ q) (sym (path_from_test (name ∷ above) old t))))
-  ] refl)
-  | false ↦ λ t. (elim (below above old) as (λ o. (is_some (option_map (λ rest. name ∷ rest) o) && true) ≡ is_some o) [
-    | None ↦ refl
-    | Some r ↦ refl
-  ])
+-- another path than that of a node that is no directory
+not_same : (t : Tree) (node n : ℕ) (old p : Path) → get t.names old ≡ Some node → has_directory t node ≡ false → get t.names p ≡ Some n → IsTrue (has_directory t n) → is_same_path p old ≡ false
+not_same t node n old p there plain stands d = elim (is_same_path p old) as (λ b. is_same_path p old ≡ b → b ≡ false) [
+  | true ↦ λ e. absurd (true≢false (sym d ∙ ap (has_directory t) (same_node (sym stands ∙ ap (get t.names) (path_from_test p old e) ∙ there)) ∙ plain))
+  | false ↦ λ e. refl
 ] refl
 
--- what the tree says of a directory inside a node holds of the names in it
-pub inside_by : {tree : Tree} {table : NodeTable} {f : Files} (to node : ℕ) (name : List ℕ) (above old : Path) (inside : Bool) → Shows tree table f → get f.names above ≡ Some to → get f.names old ≡ Some node
-    → ((p q : Path) → get tree.names p ≡ Some to → get tree.names q ≡ Some node → inside ≡ is_some (below p q)) → is_below (name ∷ above) old ≡ inside
-inside_by to node name above old inside shows into there tells = inside_is name above old ∙ sym (tells above old (same_name above shows ∙ into) (same_name old shows ∙ there))
+mapped : {X Y : Type 0} (f : X → Y) (o : Option X) → is_some (option_map f o) ≡ is_some o
+mapped f None = refl
+mapped f (Some x) = refl
+
+-- no directory stands at or below a node that is none
+pub below_file : (t : Tree) (node n : ℕ) (old p : Path) → IsWhole t → get t.names old ≡ Some node → has_directory t node ≡ false → get t.names p ≡ Some n → IsTrue (has_directory t n) → is_some (below p old) ≡ false
+below_file t node n old [] whole there plain stands d = ap (λ b. is_some (cond {A = Option Path} b (Some []) None)) (not_same t node n old [] there plain stands d)
+below_file t node n old (c ∷ p) whole there plain stands d =
+    let place = whole.parents c p n stands in
+    ap (λ b. is_some (cond b (Some []) (option_map (λ (rest : Path). c ∷ rest) (below p old)))) (not_same t node n old (c ∷ p) there plain stands d)
+    ∙ mapped (λ (rest : Path). c ∷ rest) (below p old) ∙ below_file t node place.node old p whole there plain place.stands place.directory
+
+-- a name is inside a node exactly where its directory is
+pub inside_by : (f : Files) (to node : ℕ) (name : List ℕ) (above old : Path) (inside : Bool) → get f.names above ≡ Some to → get f.names old ≡ Some node
+    → ((p q : Path) → get f.names p ≡ Some to → get f.names q ≡ Some node → inside ≡ is_some (below p q)) → is_below (name ∷ above) old ≡ inside
+inside_by f to node name above old inside into there tells = below_child name above old ∙ sym (tells above old into there)
 
 -- the error where nothing is at the new path, and where something is
 pub error_free : (f : Files) (old new : Path) (node : ℕ) (inside : Bool) → get f.names old ≡ Some node → get f.names new ≡ None → is_below new old ≡ inside → rename_error f old new ≡ cond inside (Some Einval) None

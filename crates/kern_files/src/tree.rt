@@ -1,7 +1,7 @@
-ghost use Rattle.std.specs.Prelude.{◌≡◌, ◌↔◌, ◌≤◌, ◌<◌, ◌+◌, ◌-◌, ◌^◌, ℕ, ◌∷◌, length, not, false, Some, None, IfOk, OnOk, OnErr, IsSome, IsTrue};
+ghost use Rattle.std.specs.Prelude.{◌≡◌, ◌↔◌, ◌≤◌, ◌<◌, ◌+◌, ◌-◌, ◌^◌, ℕ, ◌∷◌, length, not, false, Some, None, IfOk, OnOk, OnErr, IsSome, IsTrue, is_some};
 ghost use Rattle.std.specs.FinMap.{get};
 ghost use Rattle.sp_base.specs.Table.{at};
-ghost use Rattle.kern_model.specs.Name.{Path, name_count, has_entries};
+ghost use Rattle.kern_model.specs.Name.{Path, name_count, has_entries, below};
 ghost use Rattle.kern_model.specs.State.{State, kind_in, is_directory, directory_of, bytes_of};
 ghost use Rattle.kern_model.specs.Files.{bytes_from, fitting, link_count, resized};
 ghost use Rattle.kern_model.specs.Walk.{walk};
@@ -266,6 +266,17 @@ impl Tree {
         self.nodes.drop_link(replaced);
     }
 
+    /// Whether a directory is another node, or stands somewhere below it. Only above a directory is anything looked at.
+    fn is_inside(&self, directory: NodeNo, top: NodeNo) -> bool
+        requires within { IsDirectory self.now directory.0 }
+        requires live { IsSome (at self.now.nodes top.0) }
+        ensures { (path above : Path) → get self.now.names path ≡ Some directory.0 → get self.now.names above ≡ Some top.0
+            → result ≡ is_some (below path above) }
+    {
+        self.directories.names_are_a_tree();
+        self.nodes.is_directory(top) && self.directories.is_inside(directory, top)
+    }
+
     /// Why what is under one name can't have another: ENOENT where nothing is under the old name, EINVAL of a place inside a
     /// directory itself, EISDIR, ENOTDIR and ENOTEMPTY of what can't be replaced. None exactly where `rename` fails at most for
     /// want of memory. Takes no memory.
@@ -284,7 +295,7 @@ impl Tree {
         let Some(node) = self.directories.child(from, old_name) else {
             return Some(Errno::Enoent);
         };
-        let inside = self.directories.is_inside(to, node);
+        let inside = self.is_inside(to, node);
         let Some(replaced) = self.directories.child(to, new_name) else {
             return inside.then_some(Errno::Einval);
         };

@@ -4,7 +4,7 @@ use Rattle.std.specs.Bool.{then_some}
 use Rattle.std.specs.FinMap.{get}
 use Rattle.sp_base.specs.declared.errno.Errno.TheVariants.{Einval}
 use Rattle.kern_files.proofs.AgreeLaws.{named}
-use Rattle.kern_files.proofs.FilesLaws.{Shows, in_tree, has_node}
+use Rattle.kern_files.proofs.FilesLaws.{Shows, has_node}
 use Rattle.kern_files.proofs.RenameLaws.{found, inside_by, error_free, error_taken}
 use Rattle.kern_files.proofs.tree.Tree.rename_fault.Goals as goal
 
@@ -12,8 +12,12 @@ inside_error : (inside : Bool) → then_some inside Einval ≡ cond inside (Some
 inside_error true = refl
 inside_error false = refl
 
-pub is_inside-inside-requires : goal.is_inside-inside-requires
-is_inside-inside-requires c = in_tree c.args.to.0 (record { view = c.self.view_is; agree = c.self.invariant }) c.requires.under
+pub is_inside-inside-requires-clause-live : goal.is_inside-inside-requires-clause-live
+is_inside-inside-requires-clause-live c =
+    let shows : Shows c.self.inside.directories c.self.inside.nodes c.args.self.now = record { view = c.self.view_is; agree = c.self.invariant } in
+    let path = c.requires.within.path in
+    let there : get c.args.self.now.names (c.args.old_name.now ∷ path) ≡ Some c.in-Some.node.0 = found c.args.from.0 c.args.old_name.now path c.child.result (Some c.in-Some.node) shows c.requires.within.stands c.child.ensures c.in-Some.is in
+    subst (λ f. IsSome (get_or f.nodes c.in-Some.node.0 None)) c.self.view_is (has_node (c.args.old_name.now ∷ path) c.in-Some.node.0 shows there)
 
 pub returns-in_default-child : goal.returns-in_default-child
 returns-in_default-child c path above at into =
@@ -21,7 +25,7 @@ returns-in_default-child c path above at into =
     let there : get c.args.self.now.names (c.args.old_name.now ∷ path) ≡ Some c.in-Some.node.0 = found c.args.from.0 c.args.old_name.now path c.child.result (Some c.in-Some.node) shows at c.child.ensures c.in-Some.is in
     let free : get c.args.self.now.names (c.args.new_name.now ∷ above) ≡ None = found c.args.to.0 c.args.new_name.now above c.child-2.result None shows into c.child-2.ensures c.in_default-child.is in
     c.then_some.ensures ∙ inside_error c.is_inside-inside.result ∙ sym (error_free c.args.self.now (c.args.old_name.now ∷ path) (c.args.new_name.now ∷ above) c.in-Some.node.0 c.is_inside-inside.result there free
-    (inside_by c.args.to.0 c.in-Some.node.0 c.args.new_name.now above (c.args.old_name.now ∷ path) c.is_inside-inside.result shows into there c.is_inside-inside.ensures))
+    (inside_by c.args.self.now c.args.to.0 c.in-Some.node.0 c.args.new_name.now above (c.args.old_name.now ∷ path) c.is_inside-inside.result into there c.is_inside-inside.ensures))
 
 pub returns-then-inside : goal.returns-then-inside
 returns-then-inside c path above at into =
@@ -30,7 +34,7 @@ returns-then-inside c path above at into =
     let taken : get c.args.self.now.names (c.args.new_name.now ∷ above) ≡ Some c.in-Some-child.replaced.0 = found c.args.to.0 c.args.new_name.now above c.child-2.result (Some c.in-Some-child.replaced) shows into c.child-2.ensures c.in-Some-child.is in
     let equal : (c.in-Some.node.0 == c.in-Some-child.replaced.0) ≡ false = sym c.eq.ensures ∙ c.if-eq.false in
     sym (error_taken c.args.self.now (c.args.old_name.now ∷ path) (c.args.new_name.now ∷ above) c.in-Some.node.0 c.in-Some-child.replaced.0 false true there taken equal
-    (inside_by c.args.to.0 c.in-Some.node.0 c.args.new_name.now above (c.args.old_name.now ∷ path) c.is_inside-inside.result shows into there c.is_inside-inside.ensures ∙ c.if-inside.true))
+    (inside_by c.args.self.now c.args.to.0 c.in-Some.node.0 c.args.new_name.now above (c.args.old_name.now ∷ path) c.is_inside-inside.result into there c.is_inside-inside.ensures ∙ c.if-inside.true))
 
 pub replace_fault-requires-clause-live : goal.replace_fault-requires-clause-live
 replace_fault-requires-clause-live c =
@@ -53,7 +57,7 @@ returns-then-eq c path above at into =
     let taken : get c.args.self.now.names (c.args.new_name.now ∷ above) ≡ Some c.in-Some-child.replaced.0 = found c.args.to.0 c.args.new_name.now above c.child-2.result (Some c.in-Some-child.replaced) shows into c.child-2.ensures c.in-Some-child.is in
     let equal : (c.in-Some.node.0 == c.in-Some-child.replaced.0) ≡ true = sym c.eq.ensures ∙ c.if-eq.true in
     sym (error_taken c.args.self.now (c.args.old_name.now ∷ path) (c.args.new_name.now ∷ above) c.in-Some.node.0 c.in-Some-child.replaced.0 true c.is_inside-inside.result there taken equal
-    (inside_by c.args.to.0 c.in-Some.node.0 c.args.new_name.now above (c.args.old_name.now ∷ path) c.is_inside-inside.result shows into there c.is_inside-inside.ensures))
+    (inside_by c.args.self.now c.args.to.0 c.in-Some.node.0 c.args.new_name.now above (c.args.old_name.now ∷ path) c.is_inside-inside.result into there c.is_inside-inside.ensures))
 
 pub returns : goal.returns
 returns c path above at into =
@@ -63,4 +67,4 @@ returns c path above at into =
     let equal : (c.in-Some.node.0 == c.in-Some-child.replaced.0) ≡ false = sym c.eq.ensures ∙ c.if-eq.false in
     c.replace_fault.ensures (c.args.new_name.now ∷ above) taken
     ∙ sym (error_taken c.args.self.now (c.args.old_name.now ∷ path) (c.args.new_name.now ∷ above) c.in-Some.node.0 c.in-Some-child.replaced.0 false false there taken equal
-    (inside_by c.args.to.0 c.in-Some.node.0 c.args.new_name.now above (c.args.old_name.now ∷ path) c.is_inside-inside.result shows into there c.is_inside-inside.ensures ∙ c.if-inside.false))
+    (inside_by c.args.self.now c.args.to.0 c.in-Some.node.0 c.args.new_name.now above (c.args.old_name.now ∷ path) c.is_inside-inside.result into there c.is_inside-inside.ensures ∙ c.if-inside.false))
