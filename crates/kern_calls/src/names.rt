@@ -91,10 +91,7 @@ impl Parts {
             Err(error) => return Ok(self.failed(error)),
         };
         let name = name_in(text, last);
-        match self
-            .tree
-            .create(last.directory, name, NodeKind::Directory)
-        {
+        match self.tree.create(last.directory, name, NodeKind::Directory) {
             Ok(_) => Ok(self.done(0)),
             Err(TreeFault::Errno(error)) => Ok(self.failed(error)),
             Err(TreeFault::NoMemory) => Err(NoMemory),
