@@ -64,9 +64,9 @@ of_own (object.Node number) = eq-eqb number number refl
 
 pub of_other : (ob : Object) (node : ℕ) → node ≢ number_in ob → state.is_node node ob ≡ false
 of_other (object.Node number) node h = elim (number == node) as (λ b. (number == node) ≡ b → b ≡ false) [
-    | true ↦ λ t. absurd (h (sym (eqb-true number node t)))
-    | false ↦ λ t. refl
-  ] refl
+  | true ↦ λ t. absurd (h (sym (eqb-true number node t)))
+  | false ↦ λ t. refl
+] refl
 
 -- an open file that is there is a holder of its node
 pub some_holder : (o : OpenTables) (f : Files) (number : ℕ) (file : OpenFile) → AreHolders o f → at o.files number ≡ Some file → 0 < holders_of f (number_in file.object)
@@ -81,14 +81,14 @@ some_holder o f number file h e =
 pub fewer : (o : OpenTables) (f : Files) (number : ℕ) (file : OpenFile) → AreHolders o f → at o.files number ≡ Some file
     → AreHolders (without_file o number) (with_fewer f (number_in file.object))
 fewer o f number file h e node = elim (cases_eq node (number_in file.object)) [
-    | inl same ↦ subst (λ (n : ℕ). holders_of (with_fewer f own) n ≡ count_by (is_of_node n) (slice_set o.files number None)) (sym same) here
-    | inr other ↦ (
+  | inl same ↦ subst (λ (n : ℕ). holders_of (with_fewer f own) n ≡ count_by (is_of_node n) (slice_set o.files number None)) (sym same) here
+  | inr other ↦ (
       let less = count_set (is_of_node node) o.files number None file e in
       let none : one_if (is_of_node node (Some file)) ≡ 0 = ap one_if (of_other file.object node other) in
       let stays = set_other f.holders own (holders_of f own - 1) node other in
       let held = h node in
       omega (arith, less, none, stays, held))
-  ] where
+] where
   own : ℕ
   own = number_in file.object
 
@@ -128,7 +128,7 @@ let_go_same : (o : OpenTables) (f : Files) (number : ℕ) → AreHolders o f
     → state.let_go (joined o f) number ≡ joined (tables.let_go o number) (released f (tables.let_go_file o number))
 let_go_same o f number h =
     elim (is_held o number) as (λ b. cond b (joined o f) (let_go_object (joined (without_file o number) f) (at o.files number))
-        ≡ joined (cond b o (without_file o number)) (released f (cond b None (at o.files number)))) [
+    ≡ joined (cond b o (without_file o number)) (released f (cond b None (at o.files number)))) [
       | true ↦ refl
       | false ↦ let_go_some o f number (at o.files number) h refl
     ]
@@ -156,9 +156,9 @@ pub close_holders : (o : OpenTables) (f : Files) (pid fd : ℕ) → AreHolders o
 close_holders o f pid fd h = by_row (at (rows_of (joined o f) pid) fd) where
   by_held : (t : OpenTables) (number : ℕ) → AreHolders t f → AreHolders (tables.let_go t number) (released f (tables.let_go_file t number))
   by_held t number k = elim (is_held t number) as (λ b. AreHolders (cond b t (without_file t number)) (released f (cond b None (at t.files number)))) [
-      | true ↦ k
-      | false ↦ released_some t f number (at t.files number) k refl
-    ]
+    | true ↦ k
+    | false ↦ released_some t f number (at t.files number) k refl
+  ]
 
   by_row : (row : Option Row) → AreHolders (tables.close_row_by o pid fd row) (released f (tables.closed_by o pid fd row))
   by_row None = h

@@ -48,15 +48,15 @@ hold_fits o f node h some fits =
 pub opened_holders : (o u : OpenTables) (f g : Files) (node : ℕ) (file : OpenFile) → AreHolders o f → file.object ≡ object.Node node
     → u.files ≡ o.files ++ Some file ∷ [] → g ≡ held f node → holders_of g node ≡ holders_of f node + 1 → AreHolders u g
 opened_holders o u f g node file h own files is counted n = elim (cases_eq n node) [
-    | inl same ↦ subst (λ (m : ℕ). holders_of g m ≡ count_by (is_of_node m) u.files) (sym same) here
-    | inr other ↦ (
+  | inl same ↦ subst (λ (m : ℕ). holders_of g m ≡ count_by (is_of_node m) u.files) (sym same) here
+  | inr other ↦ (
       let more = count_push (is_of_node n) o.files (Some file) in
       let none : one_if (is_of_node n (Some file)) ≡ 0 = ap (λ (ob : Object). one_if (state.is_node n ob)) own ∙ ap one_if (different n other) in
       let stays : holders_of g n ≡ holders_of f n = ap (λ (k : Files). holders_of k n) is ∙ set_other f.holders node (holders_of f node + 1) n other in
       let was = h n in
       let now : count_by (is_of_node n) u.files ≡ count_by (is_of_node n) (o.files ++ Some file ∷ []) = ap (count_by (is_of_node n)) files in
       omega (arith, more, none, stays, was, now))
-  ] where
+] where
   different : (n : ℕ) → n ≢ node → state.is_node n (object.Node node) ≡ false
   different n other = of_other (object.Node node) n other
 
@@ -74,13 +74,13 @@ opened_holders o u f g node file h own files is counted n = elim (cases_eq n nod
 pub can_empty : (o : OpenTables) (f : Files) (s : State) (node : ℕ) → joined o f ≡ s → HasLimits s → cut_error f node 0 ≡ None
 can_empty o f s node view limits =
     subst (λ (t : State). HasLimits t → cut_error f node 0 ≡ None) view (λ h. at_joined h) limits where
-  at_joined : HasLimits (joined o f) → cut_error f node 0 ≡ None
-  at_joined h =
-      let most = h.total in
-      let own = h.file node in
-      ap (λ b. if b then Some Enospc else None) (above (length (bytes_of (joined o f) node)) (total_size (joined o f)) own most) where
-    above : (len total : ℕ) → len ≤ file_limit → total ≤ total_limit → nat_lt total_limit ((total - len) + max len 0) ≡ false
-    above len total own most = grind arith
+      at_joined : HasLimits (joined o f) → cut_error f node 0 ≡ None
+      at_joined h =
+          let most = h.total in
+          let own = h.file node in
+          ap (λ b. if b then Some Enospc else None) (above (length (bytes_of (joined o f) node)) (total_size (joined o f)) own most) where
+            above : (len total : ℕ) → len ≤ file_limit → total ≤ total_limit → nat_lt total_limit ((total - len) + max len 0) ≡ false
+            above len total own most = grind arith
 
 -- bytes that are cut to nothing
 pub cut_off : (bytes : List ℕ) → resized bytes 0 ≡ []

@@ -48,9 +48,9 @@ some_step (Some step) h = refl
 
 call_ready : (s : State) (pid : ℕ) (c : Call) (pieces : List (List ℕ)) → is_some (act_call s pid c pieces) ≡ has_step c
 call_ready s pid c pieces = elim (has_step c) as (λ b. has_step c ≡ b → is_some (act_call s pid c pieces) ≡ b) [
-    | true ↦ λ e. some_step (act_call s pid c pieces) (call_acts s pid c pieces e)
-    | false ↦ λ e. ap is_some (call_waits s pid c pieces e)
-  ] refl
+  | true ↦ λ e. some_step (act_call s pid c pieces) (call_acts s pid c pieces e)
+  | false ↦ λ e. ap is_some (call_waits s pid c pieces e)
+] refl
 
 or_ready : (s : State) (o : Option ℕ) (error : Errno) (act_with : ℕ → Step) → ((x : ℕ) → is_some (act_with x) ≡ true) → is_some (or_fail o error s act_with) ≡ true
 or_ready s None error act_with h = refl

@@ -57,10 +57,11 @@ unlink_here : (o : OpenTables) (f g : Files) (pid node : ℕ) (text name : List 
     → (act_unlink (joined o f) pid text ≡ answered 0 (joined o g)) × AreHolders o g
 unlink_here o f g pid node text name last h m is file gone =
     let st = stands_by o f text name (walk (joined o f) pid text) node last m is in
-    let same = gone st.above node st.stands st.there in
-    (unlink_found (joined o f) pid node text (Some last) m file ∙ ap (answered 0) (without_same o f m.path node h)
-    ∙ ap (λ (p : Path). answered 0 (joined o (without_name f p node))) st.is ∙ ap (λ (k : Files). answered 0 (joined o k)) (sym same),
-    without_holders o f g (name ∷ st.above) node h same)
+    let same = gone st.above node st.stands st.there in (
+      unlink_found (joined o f) pid node text (Some last) m file ∙ ap (answered 0) (without_same o f m.path node h)
+          ∙ ap (λ (p : Path). answered 0 (joined o (without_name f p node))) st.is ∙ ap (λ (k : Files). answered 0 (joined o k)) (sym same),
+      without_holders o f g (name ∷ st.above) node h same,
+    )
 
 -- an unlink in the tree is a kernel's
 pub unlink_done : (o : OpenTables) (f g : Files) (s : State) (pid node : ℕ) (text name : List ℕ) (last : Last) → joined o f ≡ s → AreHolders o f

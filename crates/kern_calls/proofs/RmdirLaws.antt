@@ -95,10 +95,11 @@ rmdir_here : (o : OpenTables) (f g : Files) (pid node : ℕ) (text name : List �
     → (act_rmdir (joined o f) pid text ≡ answered 0 (joined o g)) × AreHolders o g
 rmdir_here o f g pid node text name last h m is directory empty idle gone =
     let st = stands_by o f text name (walk (joined o f) pid text) node last m is in
-    let same = gone st.above node st.stands st.there in
-    (rmdir_by_tests (joined o f) pid node text last m false false directory (empty m.path m.stands) idle ∙ ap (answered 0) (without_same o f m.path node h)
-    ∙ ap (λ (p : Path). answered 0 (joined o (without_name f p node))) st.is ∙ ap (λ (k : Files). answered 0 (joined o k)) (sym same),
-    without_holders o f g (name ∷ st.above) node h same)
+    let same = gone st.above node st.stands st.there in (
+      rmdir_by_tests (joined o f) pid node text last m false false directory (empty m.path m.stands) idle ∙ ap (answered 0) (without_same o f m.path node h)
+          ∙ ap (λ (p : Path). answered 0 (joined o (without_name f p node))) st.is ∙ ap (λ (k : Files). answered 0 (joined o k)) (sym same),
+      without_holders o f g (name ∷ st.above) node h same,
+    )
 
 -- an rmdir in the tree is a kernel's
 pub rmdir_done : (o : OpenTables) (f g : Files) (s : State) (pid node : ℕ) (text name : List ℕ) (last : Last) → joined o f ≡ s → AreHolders o f

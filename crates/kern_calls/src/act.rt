@@ -1,9 +1,9 @@
 ghost use Rattle.std.specs.Prelude.{ℕ, List, ◌≡◌, IfOk, OnErr, IsSome, IsTrue, Some, None, Ok};
-ghost use Rattle.sp_base.specs.Needs.{needs_of};
+ghost use Rattle.sp_base.specs.Needs.{ArePieces, needs_of};
 ghost use Rattle.sp_base.specs.Table.{at};
 ghost use Rattle.kern_model.specs.Act.{first, second, act, act_op, act_call};
 ghost use Rattle.kern_model.specs.Journal.{FitsPid};
-ghost use Rattle.kern_model.specs.Needs.{ArePieces, FitsIns, needs};
+ghost use Rattle.kern_model.specs.Needs.{FitsIns, needs};
 ghost use Rattle.kern_model.specs.Plain.{step_of};
 ghost use Rattle.kern_model.specs.Sound.{IsSound};
 ghost use Rattle.kern_calls.specs.Kernel.{is_steady, is_steady_call};
@@ -38,7 +38,8 @@ impl Parts {
         requires live { IsSome (at self.old.processes pid.0) }
         requires sound { IsSound self.old }
         requires steady { IsTrue (is_steady_call call.now) }
-        ensures { (pieces : List (List ℕ)) → act_call self.old pid.0 call.now pieces ≡ Some (result, self.new) }
+        ensures { (pieces : List (List ℕ)) → act_call self.old pid.0 call.now pieces
+            ≡ Some (result, self.new) }
     {
         match call {
             Call::Close { fd } => self.close(pid, *fd),
@@ -57,7 +58,8 @@ impl Parts {
         requires process { FitsPid self.old pid.0 op.now }
         requires sound { IsSound self.old }
         requires steady { IsTrue (is_steady op.now) }
-        ensures { (pieces : List (List ℕ)) → act_op self.old pid.0 op.now pieces ≡ Some (result, self.new) }
+        ensures { (pieces : List (List ℕ)) → act_op self.old pid.0 op.now pieces
+            ≡ Some (result, self.new) }
     {
         match op {
             Op::Sys(call) => self.call_steady(pid, call),
@@ -85,7 +87,8 @@ impl Parts {
         requires live { IsSome (at self.old.processes pid.0) }
         requires sound { IsSound self.old }
         requires pieces { ArePieces (needs_of call.now) pieces.now }
-        ensures ok { IfOk result (λ answer. act_call self.old pid.0 call.now pieces.now ≡ step_of answer self.new) }
+        ensures ok { IfOk result (λ answer. act_call self.old pid.0 call.now pieces.now
+            ≡ step_of answer self.new) }
         ensures waits { result ≡ Ok None → self.new ≡ self.old }
         ensures err { OnErr result (self.new ≡ self.old) }
     {
@@ -131,7 +134,8 @@ impl Parts {
         requires process { FitsPid self.old pid.0 op.now }
         requires sound { IsSound self.old }
         requires pieces { ArePieces (needs op.now) pieces.now }
-        ensures ok { IfOk result (λ answer. act_op self.old pid.0 op.now pieces.now ≡ step_of answer self.new) }
+        ensures ok { IfOk result (λ answer. act_op self.old pid.0 op.now pieces.now
+            ≡ step_of answer self.new) }
         ensures waits { result ≡ Ok None → self.new ≡ self.old }
         ensures err { OnErr result (self.new ≡ self.old) }
     {
@@ -150,7 +154,8 @@ impl Parts {
         requires process { FitsPid self.old pid.0 op.now }
         requires sound { IsSound self.old }
         requires ins { FitsIns op.now ins.now }
-        ensures ok { IfOk result (λ answer. act self.old pid.0 op.now ins.now ≡ step_of answer self.new) }
+        ensures ok { IfOk result (λ answer. act self.old pid.0 op.now ins.now
+            ≡ step_of answer self.new) }
         ensures waits { result ≡ Ok None → self.new ≡ self.old }
         ensures err { OnErr result (self.new ≡ self.old) }
     {

@@ -104,7 +104,8 @@ fn perform_steady(
     requires sound { IsSound parts.old }
     requires steady { IsTrue (is_steady op) }
     requires room { 0 < journal.old.spare }
-    ensures { Appends parts.old journal.old pid who op ins result.0 parts.new journal.new (journal.old.spare - 1) }
+    ensures { Appends parts.old journal.old pid who op ins result.0 parts.new
+        journal.new (journal.old.spare - 1) }
 {
     let place = Place(journal.len() as u64);
     let outcome = parts.act_steady(pid, &op, &ins);
@@ -131,9 +132,11 @@ fn perform(
     requires sound { IsSound parts.old }
     requires ins { FitsIns op ins }
     ensures done { (place : Place) → result ≡ Tried.Done place
-        → Appends parts.old journal.old pid who op ins place.0 parts.new journal.new journal.old.spare }
+        → Appends parts.old journal.old pid who op ins place.0 parts.new
+        journal.new journal.old.spare }
     ensures waits { (o : Op) (i : Ins) → result ≡ Tried.NotReady o i
-        → (act parts.old pid.0 op ins ≡ None) × (parts.new ≡ parts.old) × HandsBack journal.old op ins o i journal.new }
+        → (act parts.old pid.0 op ins ≡ None) × (parts.new ≡ parts.old)
+        × HandsBack journal.old op ins o i journal.new }
     ensures no_memory { (o : Op) (i : Ins) → result ≡ Tried.NoMemory o i
         → (parts.new ≡ parts.old) × HandsBack journal.old op ins o i journal.new }
 {
@@ -214,7 +217,8 @@ impl Kernel {
 
     /// Whether every number of a process is used.
     pub fn is_full(&self) -> bool
-        ensures { IsTrue result ↔ (lowest_unused (state_after self.now.items).processes FIRST_PROCESS ≡ None) }
+        ensures { IsTrue result
+            ↔ (lowest_unused (state_after self.now.items).processes FIRST_PROCESS ≡ None) }
     {
         self.parts.is_full()
     }
@@ -228,7 +232,8 @@ impl Kernel {
 
     /// Whether `act` performs an operation now, where memory doesn't end: false exactly where it answers NotReady. Takes no memory.
     pub fn ready(&self, pid: Pid, op: &Op, ins: &Ins) -> bool
-        ensures { IsTrue result ↔ IsSome (act (state_after self.now.items) (process_of op.now pid).0 op.now ins.now) }
+        ensures { IsTrue result
+            ↔ IsSome (act (state_after self.now.items) (process_of op.now pid).0 op.now ins.now) }
     {
         match ins {
             Ins::Fault(_) => true,
@@ -244,11 +249,16 @@ impl Kernel {
     pub fn try_act(&mut self, pid: Pid, who: Who, op: Op, ins: Ins) -> Tried
         requires process { FitsPid (state_after self.old.items) (process_of op pid).0 op }
         requires ins { FitsIns op ins }
-        ensures done { (place : Place) → result ≡ Tried.Done place → Performs self.old pid who op ins place.0 self.new }
-        ensures waits { (o : Op) (i : Ins) → result ≡ Tried.NotReady o i → act (state_after self.old.items) (process_of op pid).0 op ins ≡ None }
-        ensures back_waiting { (o : Op) (i : Ins) → result ≡ Tried.NotReady o i → HandsBack self.old op ins o i self.new }
-        ensures back_refused { (o : Op) (i : Ins) → result ≡ Tried.NoMemory o i → HandsBack self.old op ins o i self.new }
-        ensures steady { (o : Op) (i : Ins) → IsTrue (is_steady op) → 0 < self.old.spare → result ≢ Tried.NoMemory o i }
+        ensures done { (place : Place) → result ≡ Tried.Done place
+            → Performs self.old pid who op ins place.0 self.new }
+        ensures waits { (o : Op) (i : Ins) → result ≡ Tried.NotReady o i
+            → act (state_after self.old.items) (process_of op pid).0 op ins ≡ None }
+        ensures back_waiting { (o : Op) (i : Ins) → result ≡ Tried.NotReady o i
+            → HandsBack self.old op ins o i self.new }
+        ensures back_refused { (o : Op) (i : Ins) → result ≡ Tried.NoMemory o i
+            → HandsBack self.old op ins o i self.new }
+        ensures steady { (o : Op) (i : Ins) → IsTrue (is_steady op) → 0 < self.old.spare
+            → result ≢ Tried.NoMemory o i }
     {
         let pid = process_of(&op, pid);
         if is_provided(&op, self.journal.spare()) {
@@ -268,8 +278,10 @@ impl Kernel {
     pub fn act(&mut self, pid: Pid, who: Who, op: Op, ins: Ins) -> Acted
         requires process { FitsPid (state_after self.old.items) (process_of op pid).0 op }
         requires ins { FitsIns op ins }
-        ensures done { (place : Place) → result ≡ Acted.Done place → Performs self.old pid who op ins place.0 self.new }
-        ensures waits { result ≡ Acted.NotReady → act (state_after self.old.items) (process_of op pid).0 op ins ≡ None }
+        ensures done { (place : Place) → result ≡ Acted.Done place
+            → Performs self.old pid who op ins place.0 self.new }
+        ensures waits { result ≡ Acted.NotReady
+            → act (state_after self.old.items) (process_of op pid).0 op ins ≡ None }
         ensures stays_waiting { result ≡ Acted.NotReady → self.new ≡ self.old }
         ensures stays_refused { result ≡ Acted.NoMemory → self.new ≡ self.old }
         ensures steady { IsTrue (is_steady op) → 0 < self.old.spare → result ≢ Acted.NoMemory }

@@ -39,7 +39,8 @@ impl Parts {
         requires live { IsSome (at self.now.processes pid.0) }
         requires sound { IsSound self.now }
         requires short { length text.now ≤ 1023 }
-        ensures { IfOk result (λ outcome. act_stat self.now pid.0 text.now addr ≡ Some (outcome, self.now)) }
+        ensures { IfOk result (λ outcome. act_stat self.now pid.0 text.now addr
+            ≡ Some (outcome, self.now)) }
     {
         let found = match self.found(pid, text) {
             Ok(found) => found,
@@ -52,7 +53,8 @@ impl Parts {
     /// Goes to another working directory.
     fn set_directory(&mut self, pid: Pid, node: NodeNo)
         requires { IsSome (at self.old.processes pid.0) }
-        ensures { self.new ≡ with_process self.old pid.0 (replace_directory (at self.old.processes pid.0) node.0) }
+        ensures { self.new
+            ≡ with_process self.old pid.0 (replace_directory (at self.old.processes pid.0) node.0) }
     {
         self.opens.set_directory(pid, node);
     }
@@ -80,7 +82,8 @@ impl Parts {
         requires live { IsSome (at self.old.processes pid.0) }
         requires sound { IsSound self.old }
         requires short { length text.now ≤ 1023 }
-        ensures ok { IfOk result (λ outcome. act_mkdir self.old pid.0 text.now ≡ Some (outcome, self.new)) }
+        ensures ok { IfOk result (λ outcome. act_mkdir self.old pid.0 text.now
+            ≡ Some (outcome, self.new)) }
         ensures err { OnErr result (self.new ≡ self.old) }
     {
         let last = match self.missing(pid, text) {
@@ -88,10 +91,7 @@ impl Parts {
             Err(error) => return Ok(self.failed(error)),
         };
         let name = name_in(text, last);
-        match self
-            .tree
-            .create(last.directory, name, NodeKind::Directory)
-        {
+        match self.tree.create(last.directory, name, NodeKind::Directory) {
             Ok(_) => Ok(self.done(0)),
             Err(TreeFault::Errno(error)) => Ok(self.failed(error)),
             Err(TreeFault::NoMemory) => Err(NoMemory),
@@ -158,7 +158,8 @@ impl Parts {
         requires sound { IsSound self.old }
         requires short { length old.now ≤ 1023 }
         requires short_new { length new.now ≤ 1023 }
-        ensures ok { IfOk result (λ outcome. act_link self.old pid.0 old.now new.now ≡ Some (outcome, self.new)) }
+        ensures ok { IfOk result (λ outcome. act_link self.old pid.0 old.now new.now
+            ≡ Some (outcome, self.new)) }
         ensures err { OnErr result (self.new ≡ self.old) }
     {
         let found = match self.found(pid, old) {

@@ -88,7 +88,8 @@ impl Parts {
 
     /// A success that writes bytes to an address.
     pub(crate) fn wrote(&self, value: u64, addr: u64, bytes: Octets) -> Result<Outcome, NoMemory>
-        ensures { IfOk result (λ outcome. outcome ≡ record (success value) { outs = piece_at addr bytes }) }
+        ensures { IfOk result (λ outcome. outcome
+            ≡ record (success value) { outs = piece_at addr bytes }) }
     {
         let mut outs = Items::none(self.alloc);
         if bytes.len() > 0 {

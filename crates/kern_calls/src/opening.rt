@@ -81,9 +81,12 @@ impl Parts {
     fn open_fault(&self, node: NodeNo, asked: Asked) -> Option<Errno>
         requires { IsSome (at self.now.nodes node.0) }
         ensures fault { IfSome result (λ error. (pid fd : ℕ)
-            → open_found self.now pid fd node.0 asked.flags.0 asked.access ≡ failed error self.now) }
-        ensures none { IfNone result ((pid fd : ℕ) → open_found self.now pid fd node.0 asked.flags.0 asked.access
-            ≡ opened (without_bytes_if (truncates asked.flags.0) self.now node.0) pid fd node.0 asked.flags.0 asked.access) }
+            → open_found self.now pid fd node.0 asked.flags.0 asked.access
+            ≡ failed error self.now) }
+        ensures none { IfNone result ((pid fd : ℕ)
+            → open_found self.now pid fd node.0 asked.flags.0 asked.access
+            ≡ opened (without_bytes_if (truncates asked.flags.0) self.now node.0) pid fd node.0
+            asked.flags.0 asked.access) }
     {
         let creates = asked.flags.creates();
         if creates && asked.flags.excludes() {
@@ -104,8 +107,10 @@ impl Parts {
         requires sound { IsSound self.old }
         requires unused { IsSome (lowest_unused (rows_of self.old pid.0) 0) }
         requires there { IsSome (at self.old.nodes node.0) }
-        ensures ok { IfOk result (λ outcome. (fd : ℕ) → lowest_unused (rows_of self.old pid.0) 0 ≡ Some fd
-            → open_found self.old pid.0 fd node.0 asked.flags.0 asked.access ≡ Some (outcome, self.new)) }
+        ensures ok { IfOk result (λ outcome. (fd : ℕ)
+            → lowest_unused (rows_of self.old pid.0) 0 ≡ Some fd
+            → open_found self.old pid.0 fd node.0 asked.flags.0 asked.access
+            ≡ Some (outcome, self.new)) }
         ensures err { OnErr result (self.new ≡ self.old) }
     {
         if let Some(error) = self.open_fault(node, asked) {
@@ -129,8 +134,10 @@ impl Parts {
         requires short { length text.now ≤ 1023 }
         requires unused { IsSome (lowest_unused (rows_of self.old pid.0) 0) }
         requires missing { IsMissing self.old text.now (walk self.old pid.0 text.now) last }
-        ensures ok { IfOk result (λ outcome. (fd : ℕ) → lowest_unused (rows_of self.old pid.0) 0 ≡ Some fd
-            → open_walked self.old pid.0 fd (walk self.old pid.0 text.now) asked.flags.0 asked.access ≡ Some (outcome, self.new)) }
+        ensures ok { IfOk result (λ outcome. (fd : ℕ)
+            → lowest_unused (rows_of self.old pid.0) 0 ≡ Some fd
+            → open_walked self.old pid.0 fd (walk self.old pid.0 text.now)
+            asked.flags.0 asked.access ≡ Some (outcome, self.new)) }
         ensures err { OnErr result (self.new ≡ self.old) }
     {
         if !asked.flags.creates() || last.slash {
@@ -152,7 +159,8 @@ impl Parts {
         requires live { IsSome (at self.old.processes pid.0) }
         requires sound { IsSound self.old }
         requires short { length path.now ≤ 1023 }
-        ensures ok { IfOk result (λ outcome. act_open self.old pid.0 path.now flags ≡ Some (outcome, self.new)) }
+        ensures ok { IfOk result (λ outcome. act_open self.old pid.0 path.now flags
+            ≡ Some (outcome, self.new)) }
         ensures err { OnErr result (self.new ≡ self.old) }
     {
         let flags = OpenFlags(flags);

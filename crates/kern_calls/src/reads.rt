@@ -45,7 +45,8 @@ impl Parts {
     ) -> Result<Outcome, NoMemory>
         requires live { IsSome (at self.old.processes pid.0) }
         requires sound { IsSound self.old }
-        ensures ok { IfOk result (λ outcome. act_read self.old pid.0 fd addr len ≡ Some (outcome, self.new)) }
+        ensures ok { IfOk result (λ outcome. act_read self.old pid.0 fd addr len
+            ≡ Some (outcome, self.new)) }
         ensures err { OnErr result (self.new ≡ self.old) }
     {
         let Some((_, file)) = self.file_of(pid, fd) else {
@@ -76,7 +77,8 @@ impl Parts {
     ) -> Result<Outcome, NoMemory>
         requires live { IsSome (at self.now.processes pid.0) }
         requires sound { IsSound self.now }
-        ensures { IfOk result (λ outcome. act_pread self.now pid.0 fd addr len offset ≡ Some (outcome, self.now)) }
+        ensures { IfOk result (λ outcome. act_pread self.now pid.0 fd addr len offset
+            ≡ Some (outcome, self.now)) }
     {
         let Some((_, file)) = self.file_of(pid, fd) else {
             return Ok(self.failed(Errno::Ebadf));
@@ -100,7 +102,8 @@ impl Parts {
     pub(crate) fn fstat(&self, pid: Pid, fd: u64, addr: u64) -> Result<Outcome, NoMemory>
         requires live { IsSome (at self.now.processes pid.0) }
         requires sound { IsSound self.now }
-        ensures { IfOk result (λ outcome. act_fstat self.now pid.0 fd addr ≡ Some (outcome, self.now)) }
+        ensures { IfOk result (λ outcome. act_fstat self.now pid.0 fd addr
+            ≡ Some (outcome, self.now)) }
     {
         let Some((_, file)) = self.file_of(pid, fd) else {
             return Ok(self.failed(Errno::Ebadf));

@@ -24,7 +24,8 @@ impl Parts {
         requires short_new { length new.now ≤ 1023 }
         requires begins { IsPart self.now old.now from }
         requires ends { IsPart self.now new.now to }
-        ensures { (path above : Path) → IsLast (files_of self.now) old.now path from → IsLast (files_of self.now) new.now above to
+        ensures { (path above : Path) → IsLast (files_of self.now) old.now path from
+            → IsLast (files_of self.now) new.now above to
             → result ≡ rename_error (files_of self.now) path above }
     {
         let old_name = name_in(old, from);
@@ -40,7 +41,8 @@ impl Parts {
         requires short { length old.now ≤ 1023 }
         requires short_new { length new.now ≤ 1023 }
         ensures ok { IfOk result (λ ends. MayRename self.now pid.0 old.now new.now ends.0 ends.1) }
-        ensures err { (error : Error) → result ≡ Err error → act_rename self.now pid.0 old.now new.now ≡ failed error self.now }
+        ensures err { (error : Error) → result ≡ Err error
+            → act_rename self.now pid.0 old.now new.now ≡ failed error self.now }
     {
         let found = self.found(pid, old)?;
         match self.walk(pid, new) {
@@ -82,7 +84,8 @@ impl Parts {
         requires sound { IsSound self.old }
         requires short { length old.now ≤ 1023 }
         requires short_new { length new.now ≤ 1023 }
-        ensures ok { IfOk result (λ outcome. act_rename self.old pid.0 old.now new.now ≡ Some (outcome, self.new)) }
+        ensures ok { IfOk result (λ outcome. act_rename self.old pid.0 old.now new.now
+            ≡ Some (outcome, self.new)) }
         ensures err { OnErr result (self.new ≡ self.old) }
     {
         let (from, to) = match self.rename_ends(pid, old, new) {

@@ -46,10 +46,12 @@ impl Parts {
     pub(crate) fn set_file(&mut self, pid: Pid, fd: u64, file: OpenFile)
         requires live { IsSome (at self.old.processes pid.0) }
         requires open { IsSome (at (rows_of self.old pid.0) fd) }
-        requires there { (row : RowOf) → at (rows_of self.old pid.0) fd ≡ Some row → IsSome (at self.old.files row.file) }
+        requires there { (row : RowOf) → at (rows_of self.old pid.0) fd ≡ Some row
+            → IsSome (at self.old.files row.file) }
         requires same { (row : RowOf) (old : FileOf) → at (rows_of self.old pid.0) fd ≡ Some row
             → at self.old.files row.file ≡ Some old → file.object ≡ old.object }
-        ensures { (row : RowOf) → at (rows_of self.old pid.0) fd ≡ Some row → self.new ≡ replace_file self.old row.file file }
+        ensures { (row : RowOf) → at (rows_of self.old pid.0) fd ≡ Some row → self.new
+            ≡ replace_file self.old row.file file }
     {
         self.opens.set_file(pid, fd, file);
     }
@@ -57,7 +59,8 @@ impl Parts {
     /// The lowest unused descriptor from `least` on. None exactly where there is none below 128.
     pub(crate) fn lowest_descriptor(&self, pid: Pid, least: u64) -> Option<Fd>
         requires { IsSome (at self.now.processes pid.0) }
-        ensures which { IfSome result (λ fd. lowest_unused (rows_of self.now pid.0) least ≡ Some fd.0) }
+        ensures which { IfSome result (λ fd. lowest_unused (rows_of self.now pid.0) least
+            ≡ Some fd.0) }
         ensures none { IfNone result (lowest_unused (rows_of self.now pid.0) least ≡ None) }
     {
         self.opens.lowest_unused(pid, least)
@@ -68,9 +71,11 @@ impl Parts {
     pub(crate) fn share(&mut self, pid: Pid, fd: u64, least: u64) -> Option<Fd>
         requires live { IsSome (at self.old.processes pid.0) }
         requires open { IsSome (at (rows_of self.old pid.0) fd) }
-        ensures which { IfSome result (λ to. lowest_unused (rows_of self.old pid.0) least ≡ Some to.0) }
+        ensures which { IfSome result (λ to. lowest_unused (rows_of self.old pid.0) least
+            ≡ Some to.0) }
         ensures made { (row : RowOf) → at (rows_of self.old pid.0) fd ≡ Some row
-            → IfSome result (λ to. self.new ≡ with_row self.old pid.0 to.0 (Some (record row { close_on_exec = false }))) }
+            → IfSome result (λ to. self.new
+            ≡ with_row self.old pid.0 to.0 (Some (record row { close_on_exec = false }))) }
         ensures full { IfNone result (lowest_unused (rows_of self.old pid.0) least ≡ None) }
         ensures none { IfNone result (self.new ≡ self.old) }
     {
@@ -86,7 +91,9 @@ impl Parts {
         requires below { to.0 < 128 }
         requires other { fd ≢ to.0 }
         ensures { (row : RowOf) → at (rows_of self.old pid.0) fd ≡ Some row
-            → self.new ≡ with_row (close_row self.old pid.0 to.0) pid.0 to.0 (Some (record row { close_on_exec = false })) }
+            → self.new
+            ≡ with_row (close_row self.old pid.0 to.0) pid.0 to.0
+            (Some (record row { close_on_exec = false })) }
     {
         if let Some(gone) = self.opens.dup_to(pid, fd, to) {
             self.tree.release(NodeNo(gone.object.node()));

@@ -3,7 +3,8 @@
 ghost use Rattle.std.specs.Prelude.{IsTrue};
 ghost use Rattle.kern_model.specs.declared.operation.Op.{Op};
 ghost use Rattle.kern_model.specs.Journal.{CanAsk, state_after};
-ghost use Rattle.kern_model.specs.Needs.{FitsIns, IsPiece, ArePieces, IsFaultOf};
+ghost use Rattle.sp_base.specs.Needs.{IsPiece, ArePieces};
+ghost use Rattle.kern_model.specs.Needs.{FitsIns, IsFaultOf};
 
 mod descriptors;
 mod files;

@@ -36,7 +36,8 @@ impl Parts {
         requires live { IsSome (at self.now.processes pid.0) }
         requires sound { IsSound self.now }
         requires short { length text.now ≤ 1023 }
-        ensures ok { IfOk result (λ found. IsFound self.now text.now (walk self.now pid.0 text.now) found.node.0 found.last) }
+        ensures ok { IfOk result (λ found. IsFound self.now text.now
+            (walk self.now pid.0 text.now) found.node.0 found.last) }
         ensures err { (error : Error) → result ≡ Err error → (act_with : Path → ℕ → Bool → Step)
             → with_found (walk self.now pid.0 text.now) self.now act_with ≡ failed error self.now }
     {
@@ -52,9 +53,11 @@ impl Parts {
         requires live { IsSome (at self.now.processes pid.0) }
         requires sound { IsSound self.now }
         requires short { length text.now ≤ 1023 }
-        ensures ok { IfOk result (λ last. IsMissing self.now text.now (walk self.now pid.0 text.now) last) }
+        ensures ok { IfOk result (λ last. IsMissing self.now text.now
+            (walk self.now pid.0 text.now) last) }
         ensures err { (error : Error) → result ≡ Err error → (act_with : Path → Bool → Step)
-            → with_missing (walk self.now pid.0 text.now) Eexist self.now act_with ≡ failed error self.now }
+            → with_missing (walk self.now pid.0 text.now) Eexist self.now act_with
+            ≡ failed error self.now }
     {
         match self.walk(pid, text) {
             Walked::Missing(last) => Ok(last),

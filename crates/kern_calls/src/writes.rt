@@ -27,10 +27,14 @@ impl Parts {
     fn put(&mut self, node: u64, start: u64, bytes: &[u8]) -> Result<u32, TreeFault>
         requires there { IsSome (at self.old.nodes node) }
         requires some { (length bytes.now == 0) ≡ false }
-        ensures ok { IfOk result (λ count. (file : FileOf) (after : State → ℕ → State) → may_write file.access ≡ true
-            → write_node self.old node file start bytes.now after ≡ answered count (after self.new (start + count))) }
-        ensures refused { (error : Error) → result ≡ Err (fault.Errno error) → (file : FileOf) (after : State → ℕ → State)
-            → may_write file.access ≡ true → write_node self.old node file start bytes.now after ≡ failed error self.old }
+        ensures ok { IfOk result (λ count. (file : FileOf) (after : State → ℕ → State)
+            → may_write file.access ≡ true
+            → write_node self.old node file start bytes.now after
+            ≡ answered count (after self.new (start + count))) }
+        ensures refused { (error : Error) → result ≡ Err (fault.Errno error)
+            → (file : FileOf) (after : State → ℕ → State)
+            → may_write file.access ≡ true
+            → write_node self.old node file start bytes.now after ≡ failed error self.old }
         ensures end { IfOk result (λ count. start + count < 2 ^ 64) }
         ensures err { OnErr result (self.new ≡ self.old) }
         ensures processes { self.new.processes ≡ self.old.processes }
@@ -55,7 +59,8 @@ impl Parts {
     pub(crate) fn write(&mut self, pid: Pid, fd: u64, bytes: &[u8]) -> Result<Outcome, NoMemory>
         requires live { IsSome (at self.old.processes pid.0) }
         requires sound { IsSound self.old }
-        ensures ok { IfOk result (λ outcome. act_write self.old pid.0 fd bytes.now ≡ Some (outcome, self.new)) }
+        ensures ok { IfOk result (λ outcome. act_write self.old pid.0 fd bytes.now
+            ≡ Some (outcome, self.new)) }
         ensures err { OnErr result (self.new ≡ self.old) }
     {
         let Some((_, file)) = self.file_of(pid, fd) else {
@@ -89,7 +94,8 @@ impl Parts {
     ) -> Result<Outcome, NoMemory>
         requires live { IsSome (at self.old.processes pid.0) }
         requires sound { IsSound self.old }
-        ensures ok { IfOk result (λ outcome. act_pwrite self.old pid.0 fd bytes.now offset ≡ Some (outcome, self.new)) }
+        ensures ok { IfOk result (λ outcome. act_pwrite self.old pid.0 fd bytes.now offset
+            ≡ Some (outcome, self.new)) }
         ensures err { OnErr result (self.new ≡ self.old) }
     {
         let Some((_, file)) = self.file_of(pid, fd) else {
@@ -116,7 +122,8 @@ impl Parts {
     pub(crate) fn ftruncate(&mut self, pid: Pid, fd: u64, len: u64) -> Result<Outcome, NoMemory>
         requires live { IsSome (at self.old.processes pid.0) }
         requires sound { IsSound self.old }
-        ensures ok { IfOk result (λ outcome. act_ftruncate self.old pid.0 fd len ≡ Some (outcome, self.new)) }
+        ensures ok { IfOk result (λ outcome. act_ftruncate self.old pid.0 fd len
+            ≡ Some (outcome, self.new)) }
         ensures err { OnErr result (self.new ≡ self.old) }
     {
         let Some((_, file)) = self.file_of(pid, fd) else {

@@ -1,7 +1,7 @@
 -- What was gathered for an operation fits what it reads.
-use Rattle.std.specs.Prelude.{◌≡◌, ℕ, ◌<◌, Bool, true, false, List, [], ◌∷◌, length, IsTrue}
-use Rattle.std.specs.List.{list_any, AllByRecursion}
-use Rattle.sp_base.specs.Needs.{needs_of}
+use Rattle.std.specs.Prelude.{Bool, true, false, List, [], ◌∷◌, IsTrue}
+use Rattle.std.specs.List.{list_any}
+use Rattle.sp_base.specs.Needs.{needs_of, ArePieces}
 use Rattle.sp_base.specs.declared.errno.Errno.{Errno}
 use Rattle.sp_base.specs.declared.errno.Errno.TheVariants.{Efault, Enametoolong}
 use Rattle.sp_base.specs.declared.need.Need.{Need}
@@ -18,18 +18,6 @@ needs Attach = []
 needs Fork = []
 needs Exec = []
 needs Exit = []
-
--- a piece is what a need asks for: as many bytes as its range has, or a text without its zero byte, below its limit
-abbrev pub IsPiece : Need → List ℕ → Type 0
-IsPiece (Bytes addr len) piece = length piece ≡ len
-IsPiece (Text addr limit) piece = (length piece < limit) × AllByRecursion (λ b. b ≡ 0 → ⊥) piece
-
--- there is one piece for each need
-abbrev pub ArePieces : List Need → List (List ℕ) → Type 0
-ArePieces [] [] = Unit {0}
-ArePieces [] (piece ∷ pieces) = ⊥
-ArePieces (need ∷ rest) [] = ⊥
-ArePieces (need ∷ rest) (piece ∷ pieces) = IsPiece need piece × ArePieces rest pieces
 
 -- a need is a text
 abbrev pub is_text : Need → Bool

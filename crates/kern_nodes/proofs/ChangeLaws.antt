@@ -1,9 +1,8 @@
 -- What the table is after each kind of change to the entries that it shows.
-use Rattle.std.proofs.Common.{◌≡◌, ℕ, ◌+◌, ◌-◌, ◌<◌, ◌≤◌, List, [], ◌∷◌, ◌++◌, length, get_or, subst, inl, inr, Option, None, Some, IsSome, is_some, cond, false, nat_lt, ◌||◌, refl, ap, sym, ◌∙◌, arith}
+use Rattle.std.proofs.Common.{◌≡◌, ℕ, ◌+◌, ◌-◌, ◌<◌, ◌≤◌, List, [], ◌∷◌, ◌++◌, length, get_or, subst, inl, inr, Option, None, Some, IsSome, is_some, cond, false, nat_eq, nat_lt, ◌||◌, refl, ap, sym, ◌∙◌, arith}
 use Rattle.std.specs.List.{sum_by, count_by}
 use Rattle.std.specs.Map.{lookup}
-use Rattle.std.specs.Ordering.{nat_cmp}
-use Rattle.std.specs.BTreeMap.{is_at, IsUnchanged, btree_map_len}
+use Rattle.std.specs.HashMap.{IsUnchanged, hash_map_len}
 use Rattle.std.proofs.lemmas.Bool.{cases_eq}
 use Rattle.std.proofs.lemmas.List.{length_push}
 use Rattle.std.proofs.lemmas.List.Sums.{sum_by_push}
@@ -22,7 +21,7 @@ use Rattle.kern_nodes.proofs.ShowLaws.{same_table, Shows, length_nodes, node_at,
 -- where the entries stay, so does the table
 pub unchanged : {old new : Inodes} {last bytes : ℕ} {table : NodeTable} → Shows old last bytes table → IsUnchanged old new → Shows new last bytes table
 unchanged {old} {new} {last} {bytes} {table} shows same =
-    let entries : (number : ℕ) → entry new number ≡ entry old number = λ number. ap (lookup (is_at (nat_cmp number))) same in
+    let entries : (number : ℕ) → entry new number ≡ entry old number = λ number. ap (lookup (nat_eq number)) same in
     let nodes : listed node_in new (last + 1) ≡ listed node_in old (last + 1) = listed_same node_in old new (last + 1) None (λ n below. ap node_in (entries n)) in
     let links : listed links_in new (last + 1) ≡ listed links_in old (last + 1) = listed_same links_in old new (last + 1) 0 (λ n below. ap links_in (entries n)) in
     let holders : listed holders_in new (last + 1) ≡ listed holders_in old (last + 1) = listed_same holders_in old new (last + 1) 0 (λ n below. ap holders_in (entries n)) in
@@ -166,12 +165,12 @@ node_unmade_at {old} {new} {last} {bytes} {table} {before} shows from changes =
     let links = listed_less links_in old new last 0 before.links 1 changes (ap (λ t. t.links) is) in
     let holders = listed_less holders_in old new last 0 before.holders 0 changes (ap (λ t. t.holders) is) in
     let one : Option Node → ℕ = λ o. cond (is_some o) 1 0 in
-    let counted : sum_by one (before.nodes ++ Some made ∷ []) ≡ btree_map_len old = ap (λ t. sum_by one t.nodes) (sym is) ∙ shows.counted.count in
+    let counted : sum_by one (before.nodes ++ Some made ∷ []) ≡ hash_map_len old = ap (λ t. sum_by one t.nodes) (sym is) ∙ shows.counted.count in
     let counts : sum_by one (before.nodes ++ Some made ∷ []) ≡ sum_by one before.nodes + 1 = sum_by_push one before.nodes (Some made) in
     let total : sum_by size_in (before.nodes ++ Some made ∷ []) ≡ bytes = ap (λ t. sum_by size_in t.nodes) (sym is) ∙ shows.counted.total in
     let totals : sum_by size_in (before.nodes ++ Some made ∷ []) ≡ sum_by size_in before.nodes + 0 = sum_by_push size_in before.nodes (Some made) in
-    let fewer : btree_map_len new + 1 ≡ btree_map_len old = omega (arith, one_there (entry old (last + 1)) made nodes.1, changes.count) in
-    let few : sum_by one before.nodes ≡ btree_map_len new = omega (arith, counted, counts, fewer) in
+    let fewer : hash_map_len new + 1 ≡ hash_map_len old = omega (arith, one_there (entry old (last + 1)) made nodes.1, changes.count) in
+    let few : sum_by one before.nodes ≡ hash_map_len new = omega (arith, counted, counts, fewer) in
     let sum : sum_by size_in before.nodes ≡ bytes = omega (arith, total, totals) in
     record {
       view = same_table (table_of new last) before nodes.0 links.0 holders.0;

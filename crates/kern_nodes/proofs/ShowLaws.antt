@@ -1,11 +1,10 @@
 -- What a table says of the entries that it shows.
-use Rattle.std.proofs.Common.{◌≡◌, ℕ, ◌+◌, ◌-◌, ◌<◌, ◌≤◌, [], ◌∷◌, length, get_or, Option, None, Some, IsSome, is_some, IsTrue, false, nat_lt, ◌&&◌, ◌^◌, refl, ap, sym, ◌∙◌, subst, arith}
+use Rattle.std.proofs.Common.{◌≡◌, ℕ, ◌+◌, ◌-◌, ◌<◌, ◌≤◌, [], ◌∷◌, length, get_or, Option, None, Some, IsSome, is_some, IsTrue, false, nat_eq, nat_lt, ◌&&◌, ◌^◌, refl, ap, sym, ◌∙◌, subst, arith}
 use borrow.Author.Tests.{ltb-true, ltb-false}
 use Rattle.std.proofs.lemmas.Bool.{and_parts}
 use Rattle.std.specs.List.{sum_by, count_by}
 use Rattle.std.specs.Map.{lookup}
-use Rattle.std.specs.Ordering.{nat_cmp}
-use Rattle.std.specs.BTreeMap.{btree_map_len, is_at, IsEmpty}
+use Rattle.std.specs.HashMap.{hash_map_len, IsEmpty}
 use Rattle.kern_model.specs.State.{has_room}
 use Rattle.kern_model.specs.Files.{total_limit, is_above_total}
 use Rattle.kern_nodes.specs.declared.inode.Inode.{Inode}
@@ -52,7 +51,7 @@ pub length_nodes : {inodes : Inodes} {last bytes : ℕ} {table : NodeTable} → 
 length_nodes {inodes} {last} {bytes} {table} shows = ap (λ t. length t.nodes) (sym shows.view) ∙ length-listed node_in inodes (last + 1)
 
 -- how many nodes there are
-pub count_nodes : {inodes : Inodes} {last bytes : ℕ} {table : NodeTable} → Shows inodes last bytes table → count_by is_some table.nodes ≡ btree_map_len inodes
+pub count_nodes : {inodes : Inodes} {last bytes : ℕ} {table : NodeTable} → Shows inodes last bytes table → count_by is_some table.nodes ≡ hash_map_len inodes
 count_nodes shows = ap (λ t. count_by is_some t.nodes) (sym shows.view) ∙ shows.counted.count
 
 -- how many bytes all nodes have
@@ -60,15 +59,15 @@ pub total_bytes : {inodes : Inodes} {last bytes : ℕ} {table : NodeTable} → S
 total_bytes shows = ap (λ t. sum_by size_in t.nodes) (sym shows.view) ∙ shows.counted.total
 
 -- there is room by the count of the entries and by the last number
-pub has_room_is : {inodes : Inodes} {last bytes : ℕ} {table : NodeTable} → Shows inodes last bytes table → has_room (state_of table) ≡ (nat_lt (btree_map_len inodes) 65536 && nat_lt (last + 1) (2 ^ 64))
+pub has_room_is : {inodes : Inodes} {last bytes : ℕ} {table : NodeTable} → Shows inodes last bytes table → has_room (state_of table) ≡ (nat_lt (hash_map_len inodes) 65536 && nat_lt (last + 1) (2 ^ 64))
 has_room_is {inodes} {last} {bytes} {table} shows =
     ap (λ n. nat_lt n 65536 && nat_lt (length table.nodes) (2 ^ 64)) (count_nodes shows)
-    ∙ ap (λ n. nat_lt (btree_map_len inodes) 65536 && nat_lt n (2 ^ 64)) (length_nodes shows)
+    ∙ ap (λ n. nat_lt (hash_map_len inodes) 65536 && nat_lt n (2 ^ 64)) (length_nodes shows)
 
 -- where there is room, the next number fits a word
 pub next_fits : {inodes : Inodes} {last bytes : ℕ} {table : NodeTable} → Shows inodes last bytes table → IsTrue (has_room (state_of table)) → last + 1 < 2 ^ 64
 next_fits {inodes} {last} shows room =
-    ltb-true (last + 1) (2 ^ 64) (and_parts (nat_lt (btree_map_len inodes) 65536) (nat_lt (last + 1) (2 ^ 64)) (sym (has_room_is shows) ∙ room)).1
+    ltb-true (last + 1) (2 ^ 64) (and_parts (nat_lt (hash_map_len inodes) 65536) (nat_lt (last + 1) (2 ^ 64)) (sym (has_room_is shows) ∙ room)).1
 
 -- no node has more bytes than all have
 pub contents_within : {inodes : Inodes} {last bytes : ℕ} {table : NodeTable} (number : ℕ) → Shows inodes last bytes table → IsSome (get_or table.nodes number None) → length (contents_of table number) ≤ bytes
@@ -87,7 +86,7 @@ sum_within {inodes} {last} {bytes} {table} number len shows allowed =
 pub no_nodes : (inodes : Inodes) → IsEmpty inodes → Shows inodes 0 0 (record { nodes = None ∷ []; links = 0 ∷ []; holders = 0 ∷ [] })
 unfolding listed
 no_nodes inodes empty =
-    let entries : (number : ℕ) → entry inodes number ≡ None = λ number. ap (lookup (is_at (nat_cmp number))) empty in
+    let entries : (number : ℕ) → entry inodes number ≡ None = λ number. ap (lookup (nat_eq number)) empty in
     record {
       view = ap (λ (o : Option Inode). record { nodes = node_in o ∷ []; links = links_in o ∷ []; holders = holders_in o ∷ [] }) (entries 0);
       counted = record {

@@ -1,5 +1,5 @@
 ghost use Rattle.std.specs.Prelude.{◌≡◌, ◌+◌, ◌^◌, ◌<◌, [], length, OnOk, OnErr, IsSome, Some, None};
-ghost use Rattle.std.specs.BTreeMap.{IsUnchanged};
+ghost use Rattle.std.specs.HashMap.{IsUnchanged};
 ghost use Rattle.kern_model.specs.Files.{put_over, resized};
 ghost use Rattle.kern_nodes.specs.Inode.{entry, Changes, ChangesBy};
 
@@ -7,10 +7,10 @@ use crate::contents::Contents;
 use kern_model::NodeKind;
 use sp_base::NoMemory;
 use std::alloc::Global;
-use std::collections::BTreeMap;
+use std::collections::HashMap;
 
 /// The entries of nodes by number.
-pub(crate) type Inodes = BTreeMap<u64, Inode>;
+pub(crate) type Inodes = HashMap<u64, Inode>;
 
 /// A node, how many names it has, and how many open files hold it.
 #[derive(Drop)]

@@ -1,5 +1,6 @@
 -- What each call reads of its caller's memory, and where it may write.
-use Rattle.std.specs.Prelude.{ℕ, ◌*◌, ◌==◌, nat_le, min, List, ◌++◌, Option, Some, None, if◌then◌else◌}
+use Rattle.std.specs.Prelude.{◌≡◌, ℕ, ◌*◌, ◌==◌, ◌<◌, nat_le, min, List, [], ◌∷◌, ◌++◌, length, Option, Some, None, if◌then◌else◌}
+use Rattle.std.specs.List.{AllByRecursion}
 use Rattle.std.specs.Option.{option_map, option_to_list}
 use Rattle.sp_base.specs.declared.call.Call.{Call}
 use Rattle.sp_base.specs.declared.call.Call.TheVariants.{Open, Read, Write, Pread, Pwrite, Fstat, Stat, Link, Unlink, Rename, Mkdir, Rmdir, Chdir, Bind, Connect, Sendto, Recvfrom, Getsockname, Getpeername, Poll}
@@ -97,3 +98,15 @@ needs_of call = pieces_of (asks_of call).0 ++ pieces_of (asks_of call).1
 -- where a call may write, in order
 abbrev pub outs_of : Call → List Range
 outs_of call = option_to_list (places_of call).0 ++ option_to_list (places_of call).1
+
+-- a piece is what a need asks for: as many bytes as its range has, or a text without its zero byte, below its limit
+abbrev pub IsPiece : Need → List ℕ → Type 0
+IsPiece (Bytes addr len) piece = length piece ≡ len
+IsPiece (Text addr limit) piece = (length piece < limit) × AllByRecursion (λ b. b ≡ 0 → ⊥) piece
+
+-- there is one piece for each need
+abbrev pub ArePieces : List Need → List (List ℕ) → Type 0
+ArePieces [] [] = Unit {0}
+ArePieces [] (piece ∷ pieces) = ⊥
+ArePieces (need ∷ rest) [] = ⊥
+ArePieces (need ∷ rest) (piece ∷ pieces) = IsPiece need piece × ArePieces rest pieces
