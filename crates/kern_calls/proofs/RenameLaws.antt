@@ -28,7 +28,7 @@ use Rattle.kern_calls.specs.Joined.{joined, AreHolders}
 use Rattle.kern_calls.specs.Reached.{IsFound, IsMissing, files_of}
 use Rattle.kern_calls.specs.Renames.{MayRename, renamed_to}
 use Rattle.kern_calls.proofs.RemoveLaws.{without_same, without_holders}
-use Rattle.kern_calls.proofs.RmdirLaws.{root_node}
+use Rattle.kern_calls.proofs.RmdirLaws.{root_error, root_node}
 
 -- a rename of what was found, by what the new text leads to
 rename_found : (s : State) (pid node : ℕ) (old new : List ℕ) (last : Option Last) (m : IsFound s old (walk s pid old) node last)
@@ -39,11 +39,7 @@ pub rename_faulty : (s : State) (pid node : ℕ) (old new : List ℕ) (last : Op
     → act_rename s pid old new ≡ failed error s
 rename_faulty s pid node old new last error m faulty = rename_found s pid node old new last m ∙ ap (rename_to s m.path node (is_some last)) faulty
 
--- what has no name of its own, and what stands under a root, is refused
-root_error : (b : Bool) (s : State) (error : Errno) → error ≡ (if b then Ebusy else Einval) → fail_if b Ebusy s (failed Einval s) ≡ failed error s
-root_error true s error is = ap (λ (e : Errno). failed e s) (sym is)
-root_error false s error is = ap (λ (e : Errno). failed e s) (sym is)
-
+-- a name isn't the root's
 not_root : (path above : Path) (name : List ℕ) → path ≡ name ∷ above → is_root path ≡ false
 not_root path above name e = ap is_root e ∙ other_test (name ∷ above) [] (λ k. absurd cc)
 

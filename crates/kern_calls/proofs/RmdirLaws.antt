@@ -54,6 +54,11 @@ pub rmdir_found : (s : State) (pid node : ℕ) (text : List ℕ) (last : Option 
 rmdir_found s pid node text last m =
     ap (λ (w : Way). with_found w s (λ path n named. fail_if (not (is_directory s n)) Enotdir s (rmdir_by s path n named))) m.walks
 
+-- what has no name of its own is refused: the root as busy, else as `.` or `..`
+pub root_error : (b : Bool) (s : State) (error : Errno) → error ≡ (if b then Ebusy else Einval) → fail_if b Ebusy s (failed Einval s) ≡ failed error s
+root_error true s error is = ap (λ (e : Errno). failed e s) (sym is)
+root_error false s error is = ap (λ (e : Errno). failed e s) (sym is)
+
 -- an rmdir of what was found without a name
 pub rmdir_unnamed : (s : State) (pid node : ℕ) (text : List ℕ) (last : Option Last) (error : Errno) → HasTree s → IsFound s text (walk s pid text) node last → last ≡ None
     → is_directory s node ≡ true → error ≡ (if node == root then Ebusy else Einval) → act_rmdir s pid text ≡ failed error s
@@ -62,11 +67,7 @@ rmdir_unnamed s pid node text last error h m none directory is =
     ∙ ap (λ b. fail_if (not b) Enotdir s (rmdir_by s m.path node (is_some last))) directory
     ∙ ap (λ (l : Option Last). rmdir_by s m.path node (is_some l)) none
     ∙ ap (λ b. fail_if b Ebusy s (failed Einval s)) (root_node s m.path node h m.stands)
-    ∙ by_root (node == root)
-    ∙ ap (λ (e : Errno). failed e s) (sym is) where
-      by_root : (b : Bool) → fail_if b Ebusy s (failed Einval s) ≡ failed (if b then Ebusy else Einval) s
-      by_root true = refl
-      by_root false = refl
+    ∙ root_error (node == root) s error is
 
 -- an rmdir of a directory that was found under its name
 pub rmdir_named : (s : State) (pid node : ℕ) (text : List ℕ) (last : Last) (m : IsFound s text (walk s pid text) node (Some last)) → is_directory s node ≡ true
