@@ -1,16 +1,15 @@
 -- A first pass and the jobs that it lent passes to, from call to call.
-use Rattle.std.proofs.Common.{◌≡◌, ◌⊎◌, ℕ, zero, suc, ◌+◌, ◌%◌, ◌^◌, ◌<◌, ◌≤◌, List, [], ◌∷◌, ◌++◌, length, Some, refl, sym, ap, ◌∙◌, subst, inl, inr, arith, length-append}
+use Rattle.std.proofs.Common.{◌≡◌, ℕ, ◌+◌, ◌%◌, ◌^◌, ◌<◌, ◌≤◌, List, [], ◌∷◌, ◌++◌, length, refl, sym, ap, ◌∙◌, subst, inl, inr, arith, length-append}
 use Rattle.std.specs.Prelude.{sum_by, ⊤}
 use Rattle.std.proofs.lemmas.List.Sums.{sum_by-cons, sum_by_push}
 use Rattle.std.proofs.lemmas.Option.{same_Some}
 use mathlib.Core.Logic.{dite}
 use native.Mathlib.Decide.{ℕ_discrete}
 use Rattle.atomic_table.specs.Seated.{TableId}
-use Rattle.turn_lock.specs.declared.view.Entry.{Entry}
 use Rattle.turn_lock.specs.declared.view.Player.{Player}
 use Rattle.turn_lock.specs.declared.view.Known.{Known}
-use Rattle.turn_lock.specs.History.{entry, is_name, calls_by, Runs}
-use Rattle.turn_lock.specs.Passes.{PassState, IsIn, player, with_call, beginner, counted, child, joining, Has, HasName, IsWhole, Closes}
+use Rattle.turn_lock.specs.History.{entry, is_name, calls_by}
+use Rattle.turn_lock.specs.Passes.{IsIn, player, with_call, beginner, joining, Has, HasName, IsWhole, Closes}
 use Rattle.turn_bench.specs.declared.counter.Counter.{Counter}
 use Rattle.turn_bench.specs.declared.players.Played.{Played}
 use Rattle.turn_bench.specs.Counts.{Ticks, Plays}

@@ -7,10 +7,9 @@
 
 mod counter;
 mod players;
-mod under_mutex;
-
 #[cfg(test)]
 mod tests;
+mod under_mutex;
 
 use sp_base::NoMemory;
 use sp_io::{Runtime, Spawner, ThreadSpawner};

@@ -1,17 +1,14 @@
 -- The steps of one turn, one after the other.
-use Rattle.std.proofs.Common.{◌≡◌, ◌≢◌, ℕ, ◌+◌, ◌%◌, ◌<◌, List, [], ◌∷◌, ◌++◌, length, Some, None, refl, sym, ap, ◌∙◌, subst, inl, arith}
+use Rattle.std.proofs.Common.{◌≡◌, ℕ, ◌+◌, ◌%◌, List, [], ◌∷◌, ◌++◌, refl, sym, ap, ◌∙◌, subst, inl}
 use Rattle.std.proofs.lemmas.Option.{same_Some}
-use Rattle.atomic_table.specs.Table.{State, Me, Step, Allows, rest}
-use Rattle.turn_lock.specs.declared.view.Entry.{Entry}
-use Rattle.turn_lock.specs.declared.view.Player.{Player}
+use Rattle.atomic_table.specs.Table.{Me, Step, Allows, rest}
 use Rattle.turn_lock.specs.declared.view.Known.{Known}
-use Rattle.turn_lock.specs.declared.view.Stage.{Stage}
 use Rattle.turn_lock.specs.declared.view.Stage.TheVariants.{Idle, Holding}
 use Rattle.turn_lock.specs.declared.view.View.{View}
 use Rattle.turn_lock.specs.declared.view.Slot.{Slot}
-use Rattle.turn_lock.specs.History.{entry, calls_by, Runs, Leads}
-use Rattle.turn_lock.specs.Passes.{player, IsWhole, Closes}
-use Rattle.turn_lock.specs.Rule.{Kept, Knows, Took, Committed, Freed, holding, idle, called, first_slot, IsOneSlot, Carries, Tells, Played}
+use Rattle.turn_lock.specs.History.{entry, Runs}
+use Rattle.turn_lock.specs.Passes.{IsWhole, Closes}
+use Rattle.turn_lock.specs.Rule.{Kept, Took, Committed, Freed, holding, idle, called, first_slot, IsOneSlot, Carries, Tells, Played}
 use Rattle.turn_lock.proofs.Names.{same_name, calls_snoc}
 use Rattle.turn_lock.proofs.Turns.{commits, frees, runs_snoc}
 

@@ -16,10 +16,7 @@ use Rattle.turn_lock.specs.contracts.view.Slot as Slot
 use Rattle.turn_lock.specs.contracts.view.View as View
 use Rattle.turn_lock.specs.contracts.turn.Pass as Pass
 use Rattle.turn_lock.specs.contracts.turn.Turn as Turn
-use Rattle.atomic_table.specs.contracts.shared.Seat as Seat
 use Rattle.atomic_table.specs.contracts.owned.Table as Table
-use Rattle.atomic_table.specs.contracts.shared.Shared as Shared
-use Rattle.atomic_table.specs.contracts.send_lease.SendLease as SendLease
 use Rattle.atomic_table.proofs.shared.Seat.TheSendSync as seat
 use Rattle.atomic_table.proofs.shared.Shared.TheSendSync as shared
 use Rattle.atomic_table.proofs.send_lease.SendLease.TheSendSync as lease
@@ -45,10 +42,10 @@ module _ (O E R : RattleType) (g : Ghosts O.Denot E.Denot R.Denot) where
   place_sync s a b c d = field_sync (Slot.the_row O E R) (View.the_row O E R) (Snapshot.the_row O) (LockRule.the_row O) Heap.the_row (rule.ghosts O E R g a b c d) global.ghosts (slot_send O E R s) heap.send heap.sync heap.frees
 
   pub turn_send : IsSend O → IsSend (Turn.the_row O E R g)
-  turn_send s = search (sendable, place_send) depth 20
+  turn_send s = search (sendable, place_send, heap.crosses) depth 20
 
   pub turn_sync : IsSend O → IsSync (Turn.the_row O E R g)
-  turn_sync s = search (sendable, place_sync) depth 20
+  turn_sync s = search (sendable, place_sync, heap.crosses) depth 20
 
   -- as a field of another struct
   pub pass_field_send : IsSend O → IsSend (Pass.the_field O E R g).row

@@ -1,29 +1,19 @@
 -- Joining a pass into another keeps the rule.
-use Rattle.std.proofs.Common.{◌≡◌, ◌≢◌, ◌⊎◌, ℕ, zero, suc, ◌+◌, ◌%◌, ◌<◌, List, [], ◌∷◌, ◌++◌, length, set, Some, None, Bool, true, false, refl, sym, ap, ◌∙◌, subst, ⊎_elim, inl, inr, arith, eqb, length-append}
-use Rattle.std.proofs.Math.Nat.{mod-add-mod}
-use Rattle.std.proofs.lemmas.Option.{same_Some}
-use Rattle.std.proofs.lemmas.List.{append_assoc}
-use prog.Atomic.{either}
+use Rattle.std.proofs.Common.{◌≡◌, ◌≢◌, ◌⊎◌, ℕ, List, set, refl, sym, ap, ◌∙◌, subst, ⊎_elim, inl, inr}
 use mathlib.Core.Logic.{dite}
 use native.Mathlib.Decide.{ℕ_discrete}
-use mathlib.Core.Option as maybe
-use mathlib.Core.Option.{some, some-injective, some-ne-none}
+use mathlib.Core.Option.{some, some-injective}
 use lib.ListN.{get_elem?}
-use Rattle.std.specs.Prelude.{slice_index}
-use Rattle.atomic_table.specs.Table.{State, Me, Step, Act, keeps, takes, gives, Valid, Allows, Splits, Joins, opening, stepped, homes_after, carried_after}
-use Rattle.atomic_table.proofs.Lists.{at_set, at_longer, set_again, set_else, exchanged}
-use Rattle.turn_lock.specs.declared.view.Entry.{Entry}
+use Rattle.atomic_table.specs.Table.{State, Joins}
+use Rattle.atomic_table.proofs.Lists.{at_set, set_else}
 use Rattle.turn_lock.specs.declared.view.Player.{Player}
-use Rattle.turn_lock.specs.declared.view.Known.{Known}
-use Rattle.turn_lock.specs.declared.view.Stage.{Stage}
-use Rattle.turn_lock.specs.declared.view.Stage.TheVariants.{Idle, Holding, Spent}
+use Rattle.turn_lock.specs.declared.view.Stage.TheVariants.{Idle, Spent}
 use Rattle.turn_lock.specs.declared.view.View.{View}
 use Rattle.turn_lock.specs.declared.view.Slot.{Slot}
-use Rattle.turn_lock.specs.History.{BeginsWith, entry, calls_by, longer, Runs, IsLegal, is_name}
-use Rattle.turn_lock.specs.Passes.{IsIn, player, next_name, with_call, Has, HasName, IsWhole, beginner, counted, child, joining}
-use Rattle.turn_lock.specs.Rule.{Fits, IsAt, Apart, Below, Unknown, Kept, Knows, Took, Tried, Committed, Freed, holding, idle, called, spent, first_slot}
-use Rattle.turn_lock.proofs.Names.{same_name, other_name, in_append, in_left, in_right, begins_self, begins_more, nil_longer, snoc_extends, calls_snoc, calls_other, longer_begins}
-use Rattle.turn_lock.proofs.Views.{kept_views, at_here, at_end, Covers, covers_self, Names, names_self, From, apart_from, below_from, unknown_from, same_set, back_set, each_set, reaches}
+use Rattle.turn_lock.specs.Passes.{IsIn, Has, joining}
+use Rattle.turn_lock.specs.Rule.{Fits, IsAt, Kept, idle, spent}
+use Rattle.turn_lock.proofs.Names.{in_append, in_left, in_right, longer_begins}
+use Rattle.turn_lock.proofs.Views.{kept_views, at_here}
 
 module _ {O E R : Type 0} (step : O → E → R → O → Type 0) (o : O) where
   abbrev S : Type 0
@@ -118,26 +108,26 @@ module _ {O E R : Type 0} (step : O → E → R → O → Type 0) (o : O) where
       kept : Kept step o record { words = s.words; homes = s.homes; views = two }
       kept = kept_views step o s h two
           (λ j u p. ⊎_elim
-            (λ (x : (j ≡ id) × (both ≡ u)). subst (λ k. Fits o h.history h.now h.lock h.holder k u) (sym x.0) (subst (λ z. Fits o h.history h.now h.lock h.holder id z) x.1 mine))
-            (λ (x : (j ≢ id) × (j ≢ other) × IsAt s.views j u). h.seats j u x.2)
-            (after j u p))
+          (λ (x : (j ≡ id) × (both ≡ u)). subst (λ k. Fits o h.history h.now h.lock h.holder k u) (sym x.0) (subst (λ z. Fits o h.history h.now h.lock h.holder id z) x.1 mine))
+          (λ (x : (j ≢ id) × (j ≢ other) × IsAt s.views j u). h.seats j u x.2)
+          (after j u p))
           (λ j k x y ne p q a b ha hb.
-            let l = source j x p a ha in
-            let r = source k y q b hb in
-            h.apart l.0 r.0 l.1 r.1 (differs l.0 r.0 j k ne (not_other j x p) (not_other k y q) l.4 r.4) l.2 r.2 a b l.3 r.3)
+          let l = source j x p a ha in
+          let r = source k y q b hb in
+          h.apart l.0 r.0 l.1 r.1 (differs l.0 r.0 j k ne (not_other j x p) (not_other k y q) l.4 r.4) l.2 r.2 a b l.3 r.3)
           (λ j k x y p q a b ha hb n more e.
-            let l = source j x p a ha in
-            let r = source k y q b hb in
-            h.below l.0 r.0 l.1 r.1 l.2 r.2 a b l.3 r.3 n more e)
+          let l = source j x p a ha in
+          let r = source k y q b hb in
+          h.below l.0 r.0 l.1 r.1 l.2 r.2 a b l.3 r.3 n more e)
           (λ name none. h.unknown name (λ j u p a ha. dite (ℕ_discrete j other)
-            (λ e.
-            let same : w ≡ u = some-injective w u (sym there.0 ∙ subst (λ k. get_elem? s.views k ≡ some u) e p.0) in
-            none id both at_both a (from_right a (subst (λ z. Has z.known a) (sym same) ha)))
-            (λ n. dite (ℕ_discrete j id)
-            (λ e.
-            let same : v ≡ u = some-injective v u (sym at ∙ subst (λ k. get_elem? s.views k ≡ some u) e p.0) in
-            none id both at_both a (from_left a (subst (λ z. Has z.known a) (sym same) ha)))
-            (λ ne. none j u (set_else one other j spent n ∙ set_else s.views id j both ne ∙ p.0, p.1) a ha))))
+          (λ e.
+          let same : w ≡ u = some-injective w u (sym there.0 ∙ subst (λ k. get_elem? s.views k ≡ some u) e p.0) in
+          none id both at_both a (from_right a (subst (λ z. Has z.known a) (sym same) ha)))
+          (λ n. dite (ℕ_discrete j id)
+          (λ e.
+          let same : v ≡ u = some-injective v u (sym at ∙ subst (λ k. get_elem? s.views k ≡ some u) e p.0) in
+          none id both at_both a (from_left a (subst (λ z. Has z.known a) (sym same) ha)))
+          (λ ne. none j u (set_else one other j spent n ∙ set_else s.views id j both ne ∙ p.0, p.1) a ha))))
         where
           at_both : IsAt two id both
           at_both = (set_else one other id spent (λ e. apart' (sym e)) ∙ at_here s.views id v both at, live)

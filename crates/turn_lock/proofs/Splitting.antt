@@ -1,29 +1,19 @@
 -- Splitting a pass off another keeps the rule.
-use Rattle.std.proofs.Common.{◌≡◌, ◌≢◌, ◌⊎◌, ℕ, zero, suc, ◌+◌, ◌%◌, ◌<◌, List, [], ◌∷◌, ◌++◌, length, set, Some, None, Bool, true, false, refl, sym, ap, ◌∙◌, subst, ⊎_elim, inl, inr, arith, eqb, length-append}
-use Rattle.std.proofs.Math.Nat.{mod-add-mod}
-use Rattle.std.proofs.lemmas.Option.{same_Some}
+use Rattle.std.proofs.Common.{◌≡◌, ◌≢◌, ℕ, ◌+◌, ◌<◌, List, [], ◌∷◌, ◌++◌, length, set, refl, sym, ap, ◌∙◌, subst, ⊎_elim, inl, inr, arith, length-append}
 use Rattle.std.proofs.lemmas.List.{append_assoc}
-use prog.Atomic.{either}
-use mathlib.Core.Logic.{dite}
-use native.Mathlib.Decide.{ℕ_discrete}
-use mathlib.Core.Option as maybe
-use mathlib.Core.Option.{some, some-injective, some-ne-none}
+use mathlib.Core.Option.{some}
 use lib.ListN.{get_elem?}
-use Rattle.std.specs.Prelude.{slice_index}
-use Rattle.atomic_table.specs.Table.{State, Me, Step, Act, keeps, takes, gives, Valid, Allows, Splits, Joins, opening, stepped, homes_after, carried_after}
-use Rattle.atomic_table.proofs.Lists.{at_set, at_longer, set_again, set_else, exchanged}
-use Rattle.turn_lock.specs.declared.view.Entry.{Entry}
+use Rattle.atomic_table.specs.Table.{State, Splits}
+use Rattle.atomic_table.proofs.Lists.{at_longer}
 use Rattle.turn_lock.specs.declared.view.Player.{Player}
-use Rattle.turn_lock.specs.declared.view.Known.{Known}
-use Rattle.turn_lock.specs.declared.view.Stage.{Stage}
-use Rattle.turn_lock.specs.declared.view.Stage.TheVariants.{Idle, Holding, Spent}
+use Rattle.turn_lock.specs.declared.view.Stage.TheVariants.{Idle, Spent}
 use Rattle.turn_lock.specs.declared.view.View.{View}
 use Rattle.turn_lock.specs.declared.view.Slot.{Slot}
-use Rattle.turn_lock.specs.History.{BeginsWith, entry, calls_by, longer, Runs, IsLegal, is_name}
-use Rattle.turn_lock.specs.Passes.{IsIn, player, next_name, with_call, Has, HasName, IsWhole, beginner, counted, child, joining}
-use Rattle.turn_lock.specs.Rule.{Fits, IsAt, Apart, Below, Unknown, Kept, Knows, Took, Tried, Committed, Freed, holding, idle, called, spent, first_slot}
-use Rattle.turn_lock.proofs.Names.{same_name, other_name, in_append, in_left, in_right, begins_self, begins_more, nil_longer, snoc_extends, calls_snoc, calls_other, longer_begins}
-use Rattle.turn_lock.proofs.Views.{kept_views, at_here, at_end, Covers, covers_self, Names, names_self, From, apart_from, below_from, unknown_from, same_set, back_set, each_set, reaches}
+use Rattle.turn_lock.specs.History.{calls_by}
+use Rattle.turn_lock.specs.Passes.{Has, counted, child}
+use Rattle.turn_lock.specs.Rule.{Fits, IsAt, Apart, Below, Kept, idle}
+use Rattle.turn_lock.proofs.Names.{snoc_extends}
+use Rattle.turn_lock.proofs.Views.{kept_views, at_here, at_end, Covers, Names, apart_from, below_from, unknown_from, same_set, back_set, each_set}
 
 module _ {O E R : Type 0} (step : O → E → R → O → Type 0) (o : O) where
   abbrev S : Type 0

@@ -14,6 +14,8 @@ use std::alloc::Global;
 use std::marker::Model;
 use std::snapshot::Snapshot;
 use std::sync::Wait;
+use std::sync::atomic::AtomicU64;
+use std::sync::atomic::Ordering::SeqCst;
 
 /// The lock word: 0 is free, 1 is taken.
 const LOCK: usize = 0;
@@ -55,6 +57,9 @@ pub struct Turn<O: Object> {
         LockRule<O>,
         Global,
     >,
+    /// How many threads sleep on the lock word or are about to, so that no sleeper is looked for in
+    /// vain.
+    sleepers: AtomicU64,
 }
 
 impl<O: Object> Model for Turn<O> {
@@ -94,7 +99,10 @@ impl<O: Object> Turn<O> {
         let opening = Snapshot::of(&object);
         let slots = one_slot(alloc, object)?;
         match Table::new(alloc, &[0, 0], slots, &opening) {
-            Ok((table, seat)) => Ok((Turn { table }, Pass { seat })),
+            Ok((table, seat)) => {
+                let sleepers = AtomicU64::new(0);
+                Ok((Turn { table, sleepers }, Pass { seat }))
+            }
             Err(_) => Err(NoMemory),
         }
     }
@@ -184,7 +192,7 @@ impl<O: Object> Turn<O> {
         let shared = &self.table.shared;
         shared.fetch_add::<Commit>(seat, COUNT, 1);
         shared.store::<Free>(seat, LOCK, 0);
-        shared.wake_one(LOCK);
+        self.wake_sleeper();
         reply
     }
 
@@ -206,12 +214,28 @@ impl<O: Object> Turn<O> {
                 return;
             }
             if backoff.is_completed() {
-                shared.park(rt, LOCK, 1);
+                self.sleep(rt);
             } else {
                 backoff.snooze();
             }
         }
         unreachable!()
+    }
+
+    /// Sleeps while the lock is taken. It may wake for no reason.
+    fn sleep<R: Wait>(&self, rt: &R) {
+        self.sleepers.fetch_add(1, SeqCst);
+        self.table.shared.park(rt, LOCK, 1);
+        self.sleepers.fetch_sub(1, SeqCst);
+    }
+
+    /// Wakes a thread that sleeps, where there is one.
+    ///
+    /// One that begins to sleep after the count was read finds the lock free, and sleeps not at all.
+    fn wake_sleeper(&self) {
+        if self.sleepers.load(SeqCst) > 0 {
+            self.table.shared.wake_one(LOCK);
+        }
     }
 
     /// Takes the object out of the slot.

@@ -1,4 +1,4 @@
-use Rattle.std.proofs.Common.{◌≡◌, ◌∙◌, ◌+◌, ◌-◌, ◌/◌, ap, subst, sym, arith, List, [], ◌∷◌, ◌++◌}
+use Rattle.std.proofs.Common.{◌≡◌, ◌∙◌, ◌-◌, ◌/◌, ap, subst, sym, arith, List, [], ◌∷◌, ◌++◌}
 use Rattle.turn_bench.specs.declared.players.Played.{Played}
 use Rattle.turn_bench.specs.Crew.{IsCrew, planned}
 use Rattle.turn_bench.proofs.Crews.{lends}

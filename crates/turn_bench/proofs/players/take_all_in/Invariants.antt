@@ -1,4 +1,4 @@
-use Rattle.std.proofs.Common.{◌≡◌, [], length}
+use Rattle.std.proofs.Common.{◌≡◌, length}
 use Rattle.turn_bench.specs.Crew.{IsCrew, planned}
 use Rattle.turn_bench.proofs.players.take_all_in.Given as goal
 

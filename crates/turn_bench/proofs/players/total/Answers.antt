@@ -1,5 +1,5 @@
-use Rattle.std.proofs.Common.{◌≡◌, ◌∙◌, ◌+◌, ◌%◌, ◌^◌, ◌<◌, ap, sym, arith, [], ◌∷◌}
-use Rattle.turn_bench.specs.Crew.{IsCrew, planned}
+use Rattle.std.proofs.Common.{◌≡◌, arith, []}
+use Rattle.turn_bench.specs.Crew.{planned}
 use Rattle.turn_bench.proofs.Crews.{starts, plays_more, whole, closes_total}
 use Rattle.turn_bench.proofs.players.total.Goals as goal
 

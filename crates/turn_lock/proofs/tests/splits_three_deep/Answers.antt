@@ -1,5 +1,4 @@
-use Rattle.std.proofs.Common.{◌≡◌, ap, [], ◌∷◌}
-use Rattle.turn_lock.specs.Owing.{IsLater, Returns}
+use Rattle.std.proofs.Common.{ap, []}
 use Rattle.turn_lock.proofs.Owing.{paid_first, paid_child, later_self, later_play, later_split, later_join, whole_first}
 use Rattle.turn_lock.proofs.tests.splits_three_deep.Goals as goal
 

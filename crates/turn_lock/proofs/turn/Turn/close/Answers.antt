@@ -1,4 +1,4 @@
-use Rattle.std.proofs.Common.{◌≡◌, ap, sym, subst}
+use Rattle.std.proofs.Common.{ap, sym, subst}
 use Rattle.turn_lock.specs.Passes.{Closes, IsWhole}
 use Rattle.turn_lock.proofs.Chain.{closed}
 use Rattle.turn_lock.proofs.turn.Turn.close.Goals as goal

@@ -1,4 +1,4 @@
-use Rattle.std.proofs.Common.{◌≡◌, ◌∙◌, ap, sym, arith, ◌<◌}
+use Rattle.std.proofs.Common.{◌∙◌, ap, sym, arith}
 use Rattle.turn_lock.proofs.Joining.{joins}
 use Rattle.turn_lock.proofs.turn.Turn.join.Goals as goal
 

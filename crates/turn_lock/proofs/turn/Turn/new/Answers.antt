@@ -1,4 +1,4 @@
-use Rattle.std.proofs.Common.{rules, ◌≡◌, refl, ◌∙◌, ap, sym, Some, ◌∷◌, [], subst}
+use Rattle.std.proofs.Common.{ap, sym, Some}
 use Rattle.turn_lock.specs.Rule.{home}
 use Rattle.turn_lock.proofs.Turns.{opens}
 use Rattle.turn_lock.proofs.turn.Turn.new.Goals as goal

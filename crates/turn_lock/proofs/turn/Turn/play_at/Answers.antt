@@ -1,8 +1,8 @@
-use Rattle.std.proofs.Common.{◌≡◌, ◌∙◌, ap, sym, refl, arith, subst, ◌<◌}
+use Rattle.std.proofs.Common.{◌∙◌, sym, arith, subst}
 use mathlib.Core.Option as maybe
 use Rattle.atomic_table.specs.Table.{step}
 use Rattle.turn_lock.specs.Rule.{Tells}
-use Rattle.turn_lock.proofs.Chain.{commit_ok, free_ok, played_ok, ended}
+use Rattle.turn_lock.proofs.Chain.{commit_ok, free_ok, played_ok}
 use Rattle.turn_lock.proofs.turn.Turn.play_at.Goals as goal
 
 pub fetch_add-requires : goal.fetch_add-requires

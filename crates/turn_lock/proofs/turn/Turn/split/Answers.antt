@@ -1,4 +1,4 @@
-use Rattle.std.proofs.Common.{◌≡◌, ◌∙◌, ap, sym, arith, ◌<◌}
+use Rattle.std.proofs.Common.{◌∙◌, ap, sym, arith}
 use Rattle.turn_lock.proofs.Splitting.{splits}
 use Rattle.turn_lock.proofs.turn.Turn.split.Goals as goal
 

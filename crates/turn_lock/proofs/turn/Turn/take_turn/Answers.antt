@@ -1,4 +1,4 @@
-use Rattle.std.proofs.Common.{rules, ◌≡◌, ◌∙◌, ap, sym, refl, arith, ◌<◌}
+use Rattle.std.proofs.Common.{◌∙◌, ap, sym, arith}
 use mathlib.Core.Option as maybe
 use Rattle.atomic_table.specs.Table.{step}
 use Rattle.turn_lock.proofs.Turns.{tries_as}
