@@ -14,9 +14,7 @@ use std::alloc::Global;
 
 /// The first so many bytes of the first piece; none where there are fewer.
 fn data_of(count: u64, outs: &[OutPiece]) -> Option<&[u8]>
-    ensures {
-        MatchOption result (data_of count outs.now ≡ None) (λ bytes. data_of count outs.now ≡ Some bytes.now)
-    }
+    ensures { MatchOption result (data_of count outs.now ≡ None) (λ bytes. data_of count outs.now ≡ Some bytes.now) }
 {
     if count == 0 {
         return Some(b"".as_slice());
