@@ -75,7 +75,7 @@ fn pieces(alloc: Global, given: &[&[u8]]) -> Result<Outs, Fail> {
 }
 
 /// The row of a line of the guest `a`, on the rump kernel at place 7.
-fn row(alloc: Global, line: &str, result: RowResult) -> Result<Row, Fail> {
+fn row(alloc: Global, line: &str, end: RowResult) -> Result<Row, Fail> {
     Ok(Row {
         guest: Octets::of(alloc, b"a")?,
         number: 12,
@@ -83,7 +83,7 @@ fn row(alloc: Global, line: &str, result: RowResult) -> Result<Row, Fail> {
         both: false,
         place: Some(Place(7)),
         line: Octets::of(alloc, line.as_bytes())?,
-        result,
+        result: end,
     })
 }
 
