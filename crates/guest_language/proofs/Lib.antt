@@ -1,1 +1,3 @@
 pub mod MemoryLaws
+pub mod Keeping
+pub mod FactLaws

@@ -7,3 +7,4 @@ pub mod Sections
 pub mod Forks
 pub mod Script
 pub mod Memory
+pub mod Facts

@@ -69,8 +69,11 @@ fn lines_of_calls(rt: HostRuntime) -> Result<(), Fail> {
             assert_eq!(rt; call.num(), num);
             assert_eq!(rt; call.words().slice(), words);
             let mem = line.memory(rt.alloc())?;
-            let lens = mem.parts().iter().map(|p| p.bytes.len() as u64);
-            assert_eq!(rt; lens.sum::<u64>(), bytes);
+            let mut total: u64 = 0;
+            for part in mem.parts() {
+                total = total.wrapping_add(part.bytes.len() as u64);
+            }
+            assert_eq!(rt; total, bytes);
         }
     }
     Ok(())

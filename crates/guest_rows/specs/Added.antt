@@ -23,7 +23,7 @@ data_of count outs = if count == 0 then Some [] else piece_data count outs
 -- bytes in quotes behind a space, where there are any
 abbrev pub quoted_data : Option (List ℕ) → List ℕ
 quoted_data None = []
-quoted_data (Some data) = 32 ∷ quoted data
+quoted_data (Some bytes) = 32 ∷ quoted bytes
 
 -- what a read adds: its bytes in quotes
 abbrev pub read_added : Answer → List OutPiece → List ℕ
@@ -54,9 +54,9 @@ name_added len outs = with_text [] (address_in len outs)
 -- what a recvfrom of these bytes adds: the bytes in quotes, and the sender's address where it told one
 abbrev pub received_data : Answer → List OutPiece → Option (List ℕ) → List ℕ
 received_data answer outs None = []
-received_data answer outs (Some data) =
-    if answer.ret1 == 0 then 32 ∷ quoted data
-    else with_text (32 ∷ quoted data) (address_in answer.ret1 (sender_outs answer.ret0 outs))
+received_data answer outs (Some bytes) =
+    if answer.ret1 == 0 then 32 ∷ quoted bytes
+    else with_text (32 ∷ quoted bytes) (address_in answer.ret1 (sender_outs answer.ret0 outs))
 
 -- what a recvfrom adds
 abbrev pub received : Answer → List OutPiece → List ℕ

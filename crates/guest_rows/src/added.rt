@@ -14,9 +14,7 @@ use std::alloc::Global;
 
 /// The first so many bytes of the first piece; none where there are fewer.
 fn data_of(count: u64, outs: &[OutPiece]) -> Option<&[u8]>
-    ensures {
-        MatchOption result (data_of count outs.now ≡ None) (λ data. data_of count outs.now ≡ Some data.now)
-    }
+    ensures { MatchOption result (data_of count outs.now ≡ None) (λ bytes. data_of count outs.now ≡ Some bytes.now) }
 {
     if count == 0 {
         return Some(b"".as_slice());
@@ -33,12 +31,12 @@ fn data_of(count: u64, outs: &[OutPiece]) -> Option<&[u8]>
 }
 
 /// Bytes in quotes behind a space.
-fn quoted_added(alloc: Global, data: &[u8]) -> Result<Octets, NoMemory>
-    ensures { IfOk result (λ text. text ≡ 32 ∷ quoted data.now) }
+fn quoted_added(alloc: Global, bytes: &[u8]) -> Result<Octets, NoMemory>
+    ensures { IfOk result (λ text. text ≡ 32 ∷ quoted bytes.now) }
 {
     let mut out = Octets::none(alloc);
     out.push(b' ')?;
-    put_quoted(&mut out, data)?;
+    put_quoted(&mut out, bytes)?;
     Ok(out)
 }
 

@@ -5,5 +5,7 @@ mod added;
 mod answered;
 mod field;
 mod row;
+#[cfg(test)]
+mod tests;
 
 pub use row::{Row, RowResult, SideName, row_text};
