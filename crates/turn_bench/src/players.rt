@@ -24,7 +24,8 @@ pub struct Played {
 impl Promise<Pass<Counter>> for Played {
     ghost use Rattle.turn_bench.specs.Counts.{Plays};
 
-    ghost kept_by = { λ p later. (later.turn ≡ p.was.value.turn) × Plays p.was.value.known p.calls later.known };
+    ghost kept_by = { λ p later. (later.turn ≡ p.was.value.turn)
+        × Plays p.was.value.known p.calls later.known };
 }
 
 /// Plays so many calls.
@@ -118,7 +119,8 @@ fn start_all<P: Spawner, R: Runtime + 'static>(
     requires crew { IsCrew pass.old [] }
     ensures of { pass.new.turn ≡ pass.old.turn }
     ensures crew { IsCrew pass.new result.joiners.items }
-    ensures planned { planned pass.new result.joiners.items + result.left ≡ planned pass.old [] + calls }
+    ensures planned { planned pass.new result.joiners.items + result.left
+        ≡ planned pass.old [] + calls }
 {
     let mut joiners = VecDeque::new(alloc);
     let mut left = calls;

@@ -43,11 +43,11 @@ impl<O: Object> Model for Pass<O> {
     ghost invariant = { λ p. (p.seat.me.1 ≡ []) × (p.seat.me.0.stage ≡ Idle) };
 }
 
-/// A lock round one object, on which many threads play one call at a time.
+/// A lock round one object, on which many threads play, one call at a time.
 ///
-/// Each call of `play` that returned stands in one history, at one place, and so does none other.
-/// A lock tells what its passes know of that history. Contracts see the lock as a name of its own,
-/// by which its passes are told from those of other locks.
+/// All calls stand in one history, in the order in which they counted, and a pass tells what its
+/// holder knows of it. Contracts see the lock as a name of its own, by which its passes are told
+/// from those of other locks.
 #[derive(Drop)]
 pub struct Turn<O: Object> {
     table: Table<
@@ -72,7 +72,8 @@ impl<O: Object> Model for Turn<O> {
 
     ghost view = { λ t. t.table.shared.table_id };
 
-    ghost invariant = { λ t. (t.table.shared.table_id.words ≡ 2) × (t.table.shared.table_id.slots ≡ 1) };
+    ghost invariant = { λ t. (t.table.shared.table_id.words ≡ 2)
+        × (t.table.shared.table_id.slots ≡ 1) };
 }
 
 /// The table's one slot, with the object.
@@ -94,7 +95,8 @@ fn one_slot<O: Object>(
 impl<O: Object> Turn<O> {
     /// A lock round the object, and its first pass, which has seen nothing.
     pub fn new(alloc: Global, object: O) -> Result<(Turn<O>, Pass<O>), NoMemory>
-        ensures first { IfOk result (λ new. new.1 ≡ record { turn = new.0; known = beginner object }) }
+        ensures first { IfOk result
+            (λ new. new.1 ≡ record { turn = new.0; known = beginner object }) }
     {
         let opening = Snapshot::of(&object);
         let slots = one_slot(alloc, object)?;
@@ -114,14 +116,15 @@ impl<O: Object> Turn<O> {
         requires of { pass.old.turn ≡ self.now }
         requires may { O.may_play event }
 
-        // the history that it has seen then is legal, begins with what it had seen, and ends with this call
+        // it then has seen a legal history, which begins with all seen before and ends with this call
         ensures legal { IsLegal O.step pass.new.known.opening pass.new.known.seen }
         ensures seen { BeginsAndEnds pass.old.known.seen
             (entry pass.old.known.own.name event result) pass.new.known.seen }
 
         // its calls are its former ones and this one, each once in that history
         ensures own { pass.new.known.own ≡ with_call pass.old.known.own event result }
-        ensures once { calls_by pass.new.known.own.name pass.new.known.seen ≡ pass.new.known.own.calls }
+        ensures once { calls_by pass.new.known.own.name pass.new.known.seen
+            ≡ pass.new.known.own.calls }
 
         // what stays
         ensures joined { pass.new.known.joined ≡ pass.old.known.joined }
@@ -131,12 +134,13 @@ impl<O: Object> Turn<O> {
         self.play_at(rt, &mut pass.seat, event)
     }
 
-    /// Splits a pass off, for another player: it has a name of its own, has seen the same history, and
-    /// made no call.
+    /// Splits a pass off, for another player: it has a name of its own, has seen the same history,
+    /// and made no call.
     pub fn split(&self, pass: &mut Pass<O>) -> Pass<O>
         requires of { pass.old.turn ≡ self.now }
         ensures child { result ≡ record { turn = pass.old.turn; known = child pass.old.known } }
-        ensures parent { pass.new ≡ record { turn = pass.old.turn; known = counted pass.old.known } }
+        ensures parent { pass.new
+            ≡ record { turn = pass.old.turn; known = counted pass.old.known } }
     {
         let seat = self.table.shared.split_seat::<SplitOff>(&mut pass.seat);
         Pass { seat }
@@ -169,8 +173,8 @@ impl<O: Object> Turn<O> {
         self.take_object(&mut seat)
     }
 
-    /// The five steps of a call: the lock, the object out of the slot and back into it, the count, and
-    /// the lock again.
+    /// The five steps of a call: the lock, the object out of the slot and back into it, the count,
+    /// and the lock again.
     fn play_at<R: Wait>(
         &self,
         rt: &R,
@@ -231,7 +235,7 @@ impl<O: Object> Turn<O> {
 
     /// Wakes a thread that sleeps, where there is one.
     ///
-    /// One that begins to sleep after the count was read finds the lock free, and sleeps not at all.
+    /// One that begins to sleep after the count was read finds the lock free, and does not sleep.
     fn wake_sleeper(&self) {
         if self.sleepers.load(SeqCst) > 0 {
             self.table.shared.wake_one(LOCK);
