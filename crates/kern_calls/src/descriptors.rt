@@ -7,7 +7,7 @@ ghost use Rattle.kern_model.specs.Sound.{IsHeld};
 
 use crate::parts::Parts;
 use kern_model::{Access, OpenFile, Outcome};
-use sp_base::{Errno, Fd, Pid};
+use sp_base::{DESCRIPTORS, Errno, Fd, Pid};
 
 /// Whether a bit of a word is set.
 pub(crate) fn has_bit(word: u64, bit: u64) -> bool
@@ -90,7 +90,7 @@ impl Parts {
         if self.row(pid, fd).is_none() {
             return self.failed(Errno::Ebadf);
         }
-        if new_fd > 127 {
+        if new_fd >= DESCRIPTORS {
             return self.failed(Errno::Ebadf);
         }
         if fd == new_fd {
@@ -107,7 +107,7 @@ impl Parts {
         ensures { (row : RowOf) → at (rows_of self.old pid.0) fd ≡ Some row
             → act_duplicate_from self.old pid.0 row least ≡ Some (result, self.new) }
     {
-        if least > 127 {
+        if least >= DESCRIPTORS {
             return self.failed(Errno::Einval);
         }
         self.duplicate(pid, fd, least)

@@ -7,7 +7,7 @@ use crate::parts::Parts;
 use crate::rows::close_rows;
 use kern_model::Outcome;
 use kern_open::ProcFault;
-use sp_base::{Errno, NoMemory, Pid};
+use sp_base::{DESCRIPTORS, Errno, NoMemory, Pid};
 
 impl Parts {
     /// A new process in the root directory. Want of memory leaves the state as it was.
@@ -41,7 +41,7 @@ impl Parts {
         requires held { IsHeld self.old }
         ensures { act_exec self.old pid.0 ≡ Some (result, self.new) }
     {
-        close_rows(self, true, pid, 128);
+        close_rows(self, true, pid, DESCRIPTORS);
         self.done(0)
     }
 
@@ -51,7 +51,7 @@ impl Parts {
         requires sound { IsSound self.old }
         ensures { act_exit self.old pid.0 ≡ Some (result, self.new) }
     {
-        close_rows(self, false, pid, 128);
+        close_rows(self, false, pid, DESCRIPTORS);
         self.end(pid);
         self.done(0)
     }

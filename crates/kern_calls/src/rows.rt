@@ -1,5 +1,6 @@
 ghost use Rattle.std.specs.Prelude.{ℕ, ◌≡◌, ◌≢◌, ◌<◌, false, IsSome, IfSome, IfNone, Some, None};
 ghost use Rattle.sp_base.specs.Table.{at, lowest_unused};
+ghost use Rattle.sp_base.specs.declared.limits.TheConstants.{DESCRIPTORS};
 ghost use Rattle.kern_model.specs.declared.node.Row.{Row as RowOf};
 ghost use Rattle.kern_model.specs.declared.node.OpenFile.{OpenFile as FileOf};
 ghost use Rattle.kern_model.specs.Plain.{file_of_row};
@@ -88,7 +89,7 @@ impl Parts {
         requires live { IsSome (at self.old.processes pid.0) }
         requires held { IsHeld self.old }
         requires open { IsSome (at (rows_of self.old pid.0) fd) }
-        requires below { to.0 < 128 }
+        requires below { to.0 < DESCRIPTORS }
         requires other { fd ≢ to.0 }
         ensures { (row : RowOf) → at (rows_of self.old pid.0) fd ≡ Some row
             → self.new
