@@ -108,6 +108,11 @@ fn can_ask(kernel: &Kernel, pid: Pid, op: &Op) -> bool
     matches!(op, Op::Attach) || kernel.is_live(pid)
 }
 
+/// Whether the kernel is ready for an operation.
+fn is_ready(kernel: &Kernel, pid: Pid, op: &Op, ins: &Ins) -> bool {
+    kernel.ready(pid, op, ins)
+}
+
 impl Both {
     /// Two kernels without processes.
     pub fn fresh(alloc: Global) -> Result<Both, Fail> {
@@ -138,7 +143,7 @@ impl Both {
             return Err(Fail::new("a row that no caller could ask for"));
         }
         let who = Who::Host(0, self.kernel.journal().len() as u64);
-        let ready = self.kernel.ready(pid, &op, &ins);
+        let ready = is_ready(&self.kernel, pid, &op, &ins);
         match self.kernel.act(pid, who, op, ins) {
             Acted::Done(_) if ready => {}
             Acted::NotReady if !ready => return Ok(String::from_str(self.alloc, "waits")?),

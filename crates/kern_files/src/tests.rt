@@ -70,20 +70,36 @@ fn cut(tree: &mut Tree, file: NodeNo, len: u64) -> Result<(), TreeFault>
     tree.cut(file, len)
 }
 
-/// A tree with a file under the names `a` and `b`, a directory `d` with a file `f`, and an empty directory `e`; and the
-/// number of `d`.
+/// A tree with a file under the names `a` and `b`.
 #[tactic(auto, using(crate::proofs::FreshLaws::fresh_root))]
+fn with_file(alloc: Global) -> Result<Tree, Fail>
+    ensures { IfOk result (λ tree. IsDirectory tree 1) }
+{
+    let mut tree = Tree::fresh(alloc)?;
+    let file = make(&mut tree, ROOT, "a", NodeKind::File)?;
+    match link(&mut tree, file, ROOT, "b") {
+        Ok(()) => Ok(tree),
+        Err(_) => Err(Fail::new("a file can't have another name")),
+    }
+}
+
+/// The same tree with a directory `d` and in it a file `f`; and the number of `d`.
+fn with_directory(alloc: Global) -> Result<(Tree, NodeNo), Fail>
+    ensures root { IfOk result (λ planted. IsDirectory planted.0 1) }
+    ensures below { IfOk result (λ planted. IsDirectory planted.0 planted.1.0) }
+{
+    let mut tree = with_file(alloc)?;
+    let below = make(&mut tree, ROOT, "d", NodeKind::Directory)?;
+    let _ = make(&mut tree, below, "f", NodeKind::File)?;
+    Ok((tree, below))
+}
+
+/// The same tree with an empty directory `e`.
 fn planted(alloc: Global) -> Result<(Tree, NodeNo), Fail>
     ensures root { IfOk result (λ planted. IsDirectory planted.0 1) }
     ensures below { IfOk result (λ planted. IsDirectory planted.0 planted.1.0) }
 {
-    let mut tree = Tree::fresh(alloc)?;
-    let file = make(&mut tree, ROOT, "a", NodeKind::File)?;
-    if link(&mut tree, file, ROOT, "b").is_err() {
-        return Err(Fail::new("a file can't have another name"));
-    }
-    let below = make(&mut tree, ROOT, "d", NodeKind::Directory)?;
-    let _ = make(&mut tree, below, "f", NodeKind::File)?;
+    let (mut tree, below) = with_directory(alloc)?;
     let _ = make(&mut tree, ROOT, "e", NodeKind::Directory)?;
     Ok((tree, below))
 }
