@@ -12,8 +12,8 @@ use Rattle.hub_model.specs.declared.state.Condition.{Condition}
 use Rattle.hub_model.specs.contracts.state.Condition as condition
 use Rattle.hub_model.specs.declared.state.OpenCall.{OpenCall}
 use Rattle.hub_model.specs.contracts.state.OpenCall as open_call
-use Rattle.hub_model.specs.declared.state.Version.{Version}
-use Rattle.hub_model.specs.contracts.state.Version as version
+use Rattle.sp_frames.specs.declared.version.Version.{Version}
+use Rattle.sp_frames.specs.contracts.version.Version as version
 use Rattle.hub_model.specs.State.{Connection, Machine}
 
 -- the code of a connection

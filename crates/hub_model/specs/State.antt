@@ -9,7 +9,7 @@ use Rattle.kern_model.specs.declared.journal.Entry.{Entry}
 use Rattle.hub_model.specs.declared.state.Condition.{Condition}
 use Rattle.hub_model.specs.declared.state.Condition.TheVariants.{Fresh, Live, InExec, Draining}
 use Rattle.hub_model.specs.declared.state.OpenCall.{OpenCall}
-use Rattle.hub_model.specs.declared.state.Version.{Version}
+use Rattle.sp_frames.specs.declared.version.Version.{Version}
 use Rattle.hub_model.specs.declared.event.Reply.{Reply}
 
 -- a connection that isn't over: how far it is; the highest number of a request that was taken, 0 before the first one; its open

@@ -4,7 +4,7 @@ ghost use Rattle.kern_model.specs.Journal.{IsLegal, HasOwnKeys};
 ghost use Rattle.hub_model.specs.Run.{Exchange, Runs};
 ghost use Rattle.hub_model.specs.Sound.{IsSound, PlaysKeepSound};
 ghost use Rattle.hub_model.specs.State.{Machine, fresh_machine};
-ghost use Rattle.hub_model.specs.declared.state.Version.{Version};
+ghost use Rattle.sp_frames.specs.declared.version.Version.{Version};
 
 /// Whatever event a sound machine plays, with memory or without, it is sound afterwards.
 pub fn events_keep_what_holds()

@@ -8,5 +8,5 @@ mod verdict;
 
 pub use event::{Event, Finish, Reply};
 pub use laws::{events_keep_what_holds, runs_leave_legal_journals};
-pub use state::{Condition, OPEN_CALLS, OpenCall, Version};
+pub use state::{Condition, OPEN_CALLS, OpenCall};
 pub use verdict::Verdict;

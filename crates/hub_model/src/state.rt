@@ -4,13 +4,6 @@ use sp_base::{Call, Errno, Pid};
 /// How many calls of one connection are open at the most.
 pub const OPEN_CALLS: u64 = 64;
 
-/// A version of the protocol.
-#[derive(Clone, Copy, Debug, PartialEq, Eq)]
-pub enum Version {
-    /// Version 0.4, in which a Put has no answer.
-    Four,
-}
-
 /// How far a connection is that isn't over.
 #[derive(Clone, Copy, Debug, PartialEq, Eq)]
 pub enum Condition {

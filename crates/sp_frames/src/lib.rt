@@ -16,6 +16,7 @@ mod reading;
 mod rows;
 #[cfg(test)]
 mod tests;
+mod version;
 mod writing;
 
 pub use banner::BANNER;
@@ -26,4 +27,5 @@ pub use laws::{
     banner_is_the_text, fault_ends_the_frames, fault_stays, no_prefix, one_fault, one_spelling,
     one_whole,
 };
+pub use version::Version;
 pub use writing::encode;
