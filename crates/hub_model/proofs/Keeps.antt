@@ -13,7 +13,7 @@ use Rattle.kern_model.specs.Journal.{Follows, IsLegal, IsNew, HasOwnKeys, state_
 use Rattle.kern_model.proofs.Journals.{legal_push}
 use Rattle.hub_model.specs.State.{Connection, Machine, process_in}
 use Rattle.hub_model.specs.Sound.{IsOpened, IsConnection, HasDone, IsDone, IsSound}
-use Rattle.hub_model.proofs.Maps.{Changes, after_change, same_or_not}
+use Rattle.tables.proofs.Maps.{Changes, after_change, same_or_not}
 
 -- the process of this number is live
 abbrev pub IsProcess : List Entry → Pid → Type 0

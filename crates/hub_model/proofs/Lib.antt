@@ -1,4 +1,3 @@
-pub mod Maps
 pub mod Keeps
 pub mod Entries
 pub mod Verdicts

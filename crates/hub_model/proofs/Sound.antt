@@ -42,7 +42,7 @@ use Rattle.hub_model.specs.declared.state.OpenCall.TheVariants.{Gathers, Fails, 
 use Rattle.hub_model.specs.declared.verdict.Verdict.{Verdict}
 use Rattle.hub_model.specs.declared.verdict.Verdict.TheVariants as verdict
 use Rattle.hub_model.proofs.Keeps.{Keeps, all_map, sound_change}
-use Rattle.hub_model.proofs.Maps.{after_change, put_changes, gone_changes}
+use Rattle.tables.proofs.Maps.{after_change, put_changes, gone_changes}
 use Rattle.hub_model.proofs.Steps.{Goes, pieces_push, pieces_all, fault_of_call, refuse_keeps, open_keeps, task_keeps, answer_keeps, take_keeps, attach_keeps, perform_keeps, exit_keeps}
 use Rattle.hub_model.proofs.Verdicts.{attaches, opens, refuses, copies, fails}
 

@@ -32,7 +32,7 @@ use Rattle.hub_model.specs.declared.state.OpenCall.{OpenCall}
 use Rattle.hub_model.specs.declared.state.OpenCall.TheVariants.{Gathers, Answers}
 use Rattle.hub_model.proofs.Entries.{nexts, next_follows, next_who, attached, call_live, exit_live}
 use Rattle.hub_model.proofs.Keeps.{IsAbout, Keeps}
-use Rattle.hub_model.proofs.Maps.{after_change, put_changes, gone_changes, get_put, get_put_other, get_gone, get_gone_other, same_or_not}
+use Rattle.tables.proofs.Maps.{after_change, put_changes, gone_changes, get_put, get_put_other, get_gone, get_gone_other, same_or_not}
 use Rattle.hub_model.proofs.Verdicts.{Attaches, FaultFits}
 
 -- ---- pieces
