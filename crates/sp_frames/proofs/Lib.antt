@@ -10,3 +10,4 @@ pub mod StepLaws
 pub mod FaultLaws
 pub mod StreamLaws
 pub mod FeedLaws
+pub mod WritingLaws

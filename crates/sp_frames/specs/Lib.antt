@@ -1,6 +1,7 @@
 pub mod Banner
 pub mod Fields
 pub mod Grammar
+pub mod Writing
 pub mod Stream
 pub mod Faults
 pub mod Framing

@@ -1,8 +1,6 @@
 //! Numbers as bytes, the lowest byte first.
-ghost use Rattle.std.specs.Prelude.{◌≡◌, ◌+◌, ◌++◌, ◌≤◌, length, take, drop, OnOk};
-ghost use Rattle.sp_frames.specs.Fields.{le16, le32, le64, of16, of32, of64};
-
-use sp_base::{NoMemory, Octets};
+ghost use Rattle.std.specs.Prelude.{◌≡◌, ◌+◌, ◌≤◌, length, take, drop};
+ghost use Rattle.sp_frames.specs.Fields.{of16, of32, of64};
 
 /// The number of the eight bytes at a place.
 #[tactic(auto, unfolding(crate::specs::Fields::of64))]
@@ -37,28 +35,4 @@ pub fn u16_at(bytes: &[u8], at: usize) -> u16
     let (_, rest) = bytes.split_at(at);
     let (front, _) = rest.split_at(2);
     u16::from_le_bytes([front[0], front[1]])
-}
-
-/// Appends the eight bytes of a number; after an error some may stand there.
-#[tactic(auto, unfolding(crate::specs::Fields::le64))]
-pub fn put_u64(out: &mut Octets, n: u64) -> Result<(), NoMemory>
-    ensures { OnOk result (out.new ≡ out.old ++ le64 n) }
-{
-    out.extend(&n.to_le_bytes())
-}
-
-/// Appends the four bytes of a number; after an error some may stand there.
-#[tactic(auto, unfolding(crate::specs::Fields::le32))]
-pub fn put_u32(out: &mut Octets, n: u32) -> Result<(), NoMemory>
-    ensures { OnOk result (out.new ≡ out.old ++ le32 n) }
-{
-    out.extend(&n.to_le_bytes())
-}
-
-/// Appends the two bytes of a number; after an error some may stand there.
-#[tactic(auto, unfolding(crate::specs::Fields::le16))]
-pub fn put_u16(out: &mut Octets, n: u16) -> Result<(), NoMemory>
-    ensures { OnOk result (out.new ≡ out.old ++ le16 n) }
-{
-    out.extend(&n.to_le_bytes())
 }

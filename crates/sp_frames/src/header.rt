@@ -1,10 +1,8 @@
 //! The 24 bytes at the front of each frame.
-ghost use Rattle.std.specs.Prelude.{◌≡◌, ◌++◌, ◌≤◌, length, OnOk};
-ghost use Rattle.sp_frames.specs.Grammar.{header_bytes};
+ghost use Rattle.std.specs.Prelude.{◌≡◌, ◌≤◌, length};
 ghost use Rattle.sp_frames.specs.Reading.{header_at};
 
-use crate::fields::{put_u16, put_u32, put_u64, u16_at, u32_at, u64_at};
-use sp_base::{NoMemory, Octets};
+use crate::fields::{u16_at, u32_at, u64_at};
 
 /// The fields of a frame's header, in the order of their bytes.
 #[derive(Clone, Copy, Debug)]
@@ -34,16 +32,4 @@ pub fn read_header(bytes: &[u8]) -> Header
         kind: u16_at(bytes, 18),
         word: u32_at(bytes, 20),
     }
-}
-
-/// Appends a header; after an error a part of it may stand there.
-pub fn put_header(out: &mut Octets, h: &Header) -> Result<(), NoMemory>
-    ensures { OnOk result (out.new ≡ out.old ++ header_bytes h.now) }
-{
-    put_u64(out, h.len)?;
-    put_u64(out, h.number)?;
-    put_u16(out, h.class)?;
-    put_u16(out, h.kind)?;
-    put_u32(out, h.word)?;
-    Ok(())
 }

@@ -10,6 +10,7 @@ mod fault;
 mod fields;
 mod frame;
 mod framer;
+mod front;
 mod header;
 mod laws;
 mod reading;

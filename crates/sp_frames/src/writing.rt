@@ -1,80 +1,84 @@
 //! A frame's spelling.
-ghost use Rattle.std.specs.Prelude.{◌≡◌, ◌++◌, OnOk, OnErr, IfOk};
+ghost use Rattle.std.specs.Prelude.{◌≡◌, ◌≤◌, ◌*◌, ◌++◌, OnOk, OnErr, length, take};
 ghost use Rattle.std.specs.List.{flat_map};
-ghost use Rattle.sp_frames.specs.Fields.{le64};
+ghost use Rattle.sp_frames.specs.Fields.{le32, le64};
 ghost use Rattle.sp_frames.specs.Grammar.{parts_of, payload_of, header_of, spelling, Fits};
+ghost use Rattle.sp_frames.specs.Writing.{field_of, numbers_of};
 
-use crate::fields::{put_u32, put_u64};
 use crate::frame::{Body, Frame};
-use crate::header::{Header, put_header};
-use sp_base::{NoMemory, Octets};
+use crate::front::Front;
+use crate::header::Header;
+use sp_base::{Cookie, NoMemory, Octets};
 use std::alloc::Global;
+use std::mem;
 
-fn put_words(out: &mut Octets, words: &[u64]) -> Result<(), NoMemory>
-    ensures { OnOk result (out.new ≡ out.old ++ flat_map (le64) words.now) }
+/// Numbers that are words, as bytes.
+fn of_words(words: &[u64]) -> Front
+    requires { length words.now ≤ 8 }
+    ensures bytes { result ≡ flat_map le64 words.now }
+    ensures count { length result ≡ 8 * length words.now }
 {
-    for word in words {
-        put_u64(out, *word)?;
-    }
-    Ok(())
+    let mut front = Front::none();
+    front.put_words(words);
+    front
 }
 
-fn put_payload(out: &mut Octets, body: &Body) -> Result<(), NoMemory>
-    ensures { OnOk result (out.new ≡ out.old ++ payload_of body.now) }
+/// A number of four bytes, as bytes.
+fn of_u32(n: u32) -> Front
+    ensures bytes { result ≡ le32 n }
+    ensures count { length result ≡ 4 }
+{
+    let mut front = Front::none();
+    front.put_u32(n);
+    front
+}
+
+/// A cookie's number and salt, as bytes.
+fn of_cookie(cookie: &Cookie) -> Front
+    ensures bytes { result ≡ le64 cookie.now.number ++ le64 cookie.now.salt }
+    ensures count { length result ≡ 16 }
+{
+    of_words(&[cookie.number, cookie.salt])
+}
+
+/// The numbers of a body, as bytes.
+fn numbers(body: &Body) -> Front
+    ensures bytes { result ≡ numbers_of body.now }
+    ensures few { length result ≤ 64 }
 {
     match body {
-        Body::Guest { name } => out.extend(name.slice())?,
-        Body::Join { cookie, name } => {
-            put_words(out, &[cookie.number, cookie.salt])?;
-            out.extend(name.slice())?;
-        }
-        Body::Image { cookie, name } => {
-            put_words(out, &[cookie.number, cookie.salt])?;
-            out.extend(name.slice())?;
-        }
-        Body::Sys { words, .. } => put_words(out, words.slice())?,
-        Body::AskBytes { addr, len, .. } => put_words(out, &[*addr, *len])?,
-        Body::AskText { addr, max, .. } => put_words(out, &[*addr, *max])?,
-        Body::Put { addr, bytes, .. } => {
-            put_u64(out, *addr)?;
-            out.extend(bytes.slice())?;
-        }
-        Body::Prefork => {}
-        Body::Cancel { cookie } => put_words(out, &[cookie.number, cookie.salt])?,
-        Body::Preexec => {}
-        Body::Hello { pid } => put_u32(out, pid.0)?,
-        Body::Joined { pid } => put_u32(out, pid.0)?,
+        Body::Guest { .. } | Body::Prefork | Body::Preexec => Front::none(),
+        Body::Cancelled | Body::Refused { .. } => Front::none(),
+        Body::Sys { words, .. } => of_words(words.slice()),
+        Body::AskBytes { addr, len, .. } => of_words(&[*addr, *len]),
+        Body::AskText { addr, max, .. } => of_words(&[*addr, *max]),
+        Body::Put { addr, .. } => of_words(&[*addr]),
+        Body::Join { cookie, .. } | Body::Image { cookie, .. } => of_cookie(cookie),
+        Body::Cancel { cookie } | Body::ExecReady { cookie } => of_cookie(cookie),
+        Body::Hello { pid } | Body::Joined { pid } => of_u32(pid.0),
         Body::Imaged { pid, place } => {
-            put_u32(out, pid.0)?;
-            put_u64(out, place.0)?;
+            let mut front = of_u32(pid.0);
+            front.put_u64(place.0);
+            front
         }
-        Body::Answered(answer) => put_words(out, &[answer.ret0, answer.ret1, answer.place.0])?,
-        Body::GotBytes { err, bytes, .. } => {
-            put_u32(out, *err)?;
-            out.extend(bytes.slice())?;
-        }
-        Body::GotText { err, bytes, .. } => {
-            put_u32(out, *err)?;
-            out.extend(bytes.slice())?;
-        }
+        Body::Answered(answer) => of_words(&[answer.ret0, answer.ret1, answer.place.0]),
+        Body::GotBytes { err, .. } | Body::GotText { err, .. } => of_u32(*err),
         Body::Forked { cookie, place, pid } => {
-            let child = u64::from(pid.0);
-            put_words(out, &[cookie.number, cookie.salt, place.0, child])?;
+            of_words(&[cookie.number, cookie.salt, place.0, u64::from(pid.0)])
         }
-        Body::Cancelled => {}
-        Body::ExecReady { cookie } => put_words(out, &[cookie.number, cookie.salt])?,
-        Body::Refused { .. } => {}
     }
-    Ok(())
 }
 
-/// The bytes behind a body's header.
-fn payload(alloc: Global, body: &Body) -> Result<Octets, NoMemory>
-    ensures { IfOk result (λ payload. payload ≡ payload_of body.now) }
+/// The bytes that a body has behind its numbers.
+fn field(body: &Body) -> &[u8]
+    ensures { result.now ≡ field_of body.now }
 {
-    let mut payload = Octets::none(alloc);
-    put_payload(&mut payload, body)?;
-    Ok(payload)
+    match body {
+        Body::Guest { name } | Body::Join { name, .. } | Body::Image { name, .. } => name.slice(),
+        Body::Put { bytes, .. } => bytes.slice(),
+        Body::GotBytes { bytes, .. } | Body::GotText { bytes, .. } => bytes.slice(),
+        _ => &[],
+    }
 }
 
 /// The class, the type and the word of a body, a row for each.
@@ -107,14 +111,15 @@ fn labels(body: &Body) -> (u16, u16, u32)
     }
 }
 
-fn header(frame: &Frame, payload: &[u8]) -> Header
+/// The header of a frame whose payload has so many bytes.
+fn header(frame: &Frame, payload_len: usize) -> Header
     requires fits { Fits frame.now }
-    requires payload { payload.now ≡ payload_of frame.now.body }
+    requires payload { payload_len ≡ length (payload_of frame.now.body) }
     ensures { result ≡ header_of frame.now }
 {
     let (class, kind, word) = labels(&frame.body);
     Header {
-        len: 24 + payload.len() as u64,
+        len: 24 + payload_len as u64,
         number: frame.number.0,
         class,
         kind,
@@ -122,26 +127,53 @@ fn header(frame: &Frame, payload: &[u8]) -> Header
     }
 }
 
-fn spelled(alloc: Global, frame: &Frame) -> Result<Octets, NoMemory>
+/// A frame's spelling but for the field behind its numbers.
+#[tactic(auto, using(crate::proofs::WritingLaws::payload_is))]
+fn front(frame: &Frame) -> Front
     requires { Fits frame.now }
-    ensures { IfOk result (λ text. text ≡ spelling frame.now) }
+    ensures { result ++ field_of frame.now.body ≡ spelling frame.now }
 {
-    let payload = payload(alloc, &frame.body)?;
-    let header = header(frame, payload.slice());
-    let mut text = Octets::from_vec(Vec::with_capacity(alloc, header.len as usize)?);
-    put_header(&mut text, &header)?;
-    text.extend(payload.slice())?;
-    Ok(text)
+    let numbers = numbers(&frame.body);
+    let field = field(&frame.body);
+    let header = header(frame, numbers.slice().len() + field.len());
+    let mut front = Front::none();
+    front.put_header(&header);
+    front.put(numbers.slice());
+    front
 }
 
-/// Appends the frame's one spelling.
+/// Takes away all bytes behind the first of them.
+fn cut(alloc: Global, out: &mut Octets, count: usize)
+    ensures { out.new ≡ take count out.old }
+{
+    let mut items = mem::replace(out, Octets::none(alloc)).into_vec();
+    items.truncate(count);
+    *out = Octets::from_vec(items);
+}
+
+/// Appends bytes and a field behind them. On an error nothing was appended.
+fn append(alloc: Global, out: &mut Octets, front: &[u8], field: &[u8]) -> Result<(), NoMemory>
+    ensures ok { OnOk result (out.new ≡ (out.old ++ front.now) ++ field.now) }
+    ensures err { OnErr result (out.new ≡ out.old) }
+{
+    let count = out.len();
+    out.extend(front)?;
+    if field.is_empty() || out.extend(field).is_ok() {
+        return Ok(());
+    }
+    cut(alloc, out, count);
+    Err(NoMemory)
+}
+
+/// Appends the frame's one spelling, with one copy of its bytes.
 ///
 /// The frame is within its row. On an error, which is want of memory, nothing was appended.
+#[tactic(auto, using(crate::proofs::WritingLaws::joined_again))]
 pub fn encode(alloc: Global, frame: &Frame, out: &mut Octets) -> Result<(), NoMemory>
     requires { Fits frame.now }
     ensures ok { OnOk result (out.new ≡ out.old ++ spelling frame.now) }
     ensures err { OnErr result (out.new ≡ out.old) }
 {
-    let text = spelled(alloc, frame)?;
-    out.extend(text.slice())
+    let front = front(frame);
+    append(alloc, out, front.slice(), field(&frame.body))
 }
