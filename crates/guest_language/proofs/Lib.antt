@@ -4,3 +4,4 @@ pub mod FactLaws
 pub mod SpacedLines
 pub mod ShortLines
 pub mod SpelledSteps
+pub mod SpelledLines
