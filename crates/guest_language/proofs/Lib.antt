@@ -5,3 +5,5 @@ pub mod SpacedLines
 pub mod ShortLines
 pub mod SpelledSteps
 pub mod SpelledLines
+pub mod SameNames
+pub mod JoinedLines

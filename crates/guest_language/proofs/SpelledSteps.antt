@@ -118,7 +118,7 @@ pub record ReadsAs (names : List (List ℕ)) (ss : List Section) (at : ℕ) (tex
   pub again : step names ss at text ≡ Ok new
   pub adds : Adds ss at text new
 
-blank_reads : (names : List (List ℕ)) (ss : List Section) (at : ℕ) → ReadsAs names ss at [] ss
+pub blank_reads : (names : List (List ℕ)) (ss : List Section) (at : ℕ) → ReadsAs names ss at [] ss
 unfolding step
 blank_reads names ss at = record { printed = refl; again = refl; adds = inl (refl, refl) }
 
