@@ -1,10 +1,10 @@
 -- Lines that are joined by line ends are these lines again, and as many bytes and lines at most.
-use Rattle.std.proofs.Common.{◌≡◌, ℕ, zero, suc, ◌+◌, ◌-◌, ◌≤◌, ◌==◌, ◌&&◌, ◌||◌, Bool, true, false, cond, List, [], ◌∷◌, ◌++◌, length, map, get_or, refl, ap, sym, ◌∙◌, subst, arith, length-append, nat_le, replicate, slice_index}
+use Rattle.std.proofs.Common.{◌≡◌, ℕ, zero, suc, ◌+◌, ◌-◌, ◌≤◌, ◌==◌, ◌&&◌, ◌||◌, Bool, true, false, cond, List, [], ◌∷◌, ◌++◌, length, map, get_or, refl, ap, sym, ◌∙◌, subst, arith, length-append, nat_le, replicate}
 use Rattle.std.specs.Prelude.{count_by}
 use Rattle.std.specs.List.{AllByRecursion, join_with_byte, onto_first, slice_split}
 use Rattle.std.proofs.lemmas.Bool.{and_parts}
 use Rattle.std.proofs.lemmas.Bool.Decides.{nat_tests}
-use Rattle.std.proofs.lemmas.List.{append-nil}
+use Rattle.std.proofs.lemmas.List.{append-nil, length-map, length-replicate}
 use Rattle.std.proofs.lemmas.List.Splits.{length-slice_split}
 use Rattle.guest_language.specs.Length.{is_ended, line_count, lines_of}
 use Rattle.guest_language.specs.Sections.{is_printed}
@@ -78,7 +78,7 @@ front_size (line ∷ next ∷ lines) more =
     omega (arith, rest, length-append line (10 ∷ join_with_byte 10 (next ∷ lines)), length-append line (10 ∷ join_with_byte 10 ((next ∷ lines) ++ more)))
 
 -- the last line is blank
-abbrev EndsBlank : List (List ℕ) → Type 0
+abbrev pub EndsBlank : List (List ℕ) → Type 0
 EndsBlank [] = ⊥
 EndsBlank (line ∷ []) = line ≡ []
 EndsBlank (line ∷ next ∷ lines) = EndsBlank (next ∷ lines)
@@ -132,3 +132,18 @@ end_behind (suc (suc n)) line lines h = end_behind (suc n) line lines h
 pub parts_end : (at : ℕ) (parts : List Numbered) → AllByRecursion (λ (part : Numbered). part.text ≡ [] → ⊥) parts → EndsBlank (lines_at at parts) → ⊥
 parts_end at [] filled h = h
 parts_end at (part ∷ parts) filled h = parts_end (part.number + 1) parts filled.1 (end_alone part.text (lines_at (part.number + 1) parts) (end_behind (part.number - at) part.text (lines_at (part.number + 1) parts) h) filled.0)
+
+-- lines of a text, with single spaces, are no more than its lines where the last of them isn't blank
+pub enough_lines : (text : List ℕ) (lines : List (List ℕ)) (blanks : ℕ) → map single_spaced (lines_of text) ≡ lines ++ replicate blanks [] → (EndsBlank lines → ⊥) → length lines ≤ line_count text
+enough_lines text lines blanks same some = by_end (is_ended text) refl blanks same
+  where
+    count : length (lines_of text) ≡ count_by (λ b. b == 10) text + 1
+    count = counted text
+
+    size : (n : ℕ) → map single_spaced (lines_of text) ≡ lines ++ replicate n [] → length (lines_of text) ≡ length lines + n
+    size n same = sym (length-map (lines_of text) single_spaced) ∙ ap length same ∙ length-append lines (replicate n []) ∙ ap (λ (m : ℕ). length lines + m) (length-replicate n [])
+
+    by_end : (c : Bool) → is_ended text ≡ c → (n : ℕ) → map single_spaced (lines_of text) ≡ lines ++ replicate n [] → length lines ≤ count_by (λ b. b == 10) text + cond c 0 1
+    by_end false e n same = let total = size n same in omega (arith, count, total)
+    by_end true e zero same = absurd (some (subst EndsBlank (same ∙ append-nil lines) (spaced_blank (lines_of text) (ended_blank text e))))
+    by_end true e (suc n) same = let total = size (suc n) same in omega (arith, count, total)

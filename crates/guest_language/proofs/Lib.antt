@@ -7,3 +7,4 @@ pub mod SpelledSteps
 pub mod SpelledLines
 pub mod SameNames
 pub mod JoinedLines
+pub mod SpelledScript

@@ -1,11 +1,10 @@
 -- Lines with single spaces, and blank ones behind them, name the same guests.
-use Rattle.std.proofs.Common.{◌≡◌, ℕ, zero, suc, ◌+◌, ◌*◌, ◌==◌, Bool, true, false, cond, List, [], ◌∷◌, ◌++◌, map, Option, Some, None, Result, Ok, Err, refl, ap, sym, ◌∙◌, subst, arith, replicate, slice_index, take}
-use Rattle.std.specs.Prelude.{codes, count_by}
+use Rattle.std.proofs.Common.{◌≡◌, ℕ, zero, suc, ◌+◌, ◌==◌, Bool, true, false, cond, List, [], ◌∷◌, ◌++◌, map, Option, None, Result, Ok, Err, refl, ap, sym, ◌∙◌, subst, arith, replicate, slice_index, take}
+use Rattle.std.specs.Prelude.{codes}
 use Rattle.std.specs.Str.{bytes_eq}
 use Rattle.std.proofs.lemmas.Bool.{eqb-true}
 use Rattle.std.proofs.lemmas.List.Folds.{sum_by-replicate}
 use Rattle.std.proofs.lemmas.List.Sums.{sum_by-append, sum_by-cons}
-use Rattle.guest_language.specs.declared.fault.ScriptFault.{ScriptFault}
 use Rattle.guest_language.specs.declared.fault.ScriptKind.{ScriptKind}
 use Rattle.guest_language.specs.declared.script.Section.{Section}
 use Rattle.guest_language.specs.Length.{guest_line_count, is_guest_line}

@@ -1,6 +1,6 @@
 -- A line with single spaces is no longer than the line.
-use Rattle.std.proofs.Common.{◌≡◌, ℕ, zero, suc, ◌+◌, ◌-◌, ◌≤◌, ◌==◌, Bool, true, false, cond, List, [], ◌∷◌, ◌++◌, length, take, refl, ap, sym, ◌∙◌, subst, arith, nat_lt, slice_index, length-append, length-take}
-use Rattle.std.proofs.lemmas.Bool.Decides.{nat_tests}
+use Rattle.std.proofs.Common.{◌≡◌, ℕ, zero, suc, ◌+◌, ◌-◌, ◌≤◌, ◌==◌, Bool, true, false, cond, List, [], ◌∷◌, length, take, refl, ap, sym, ◌∙◌, subst, arith, nat_lt, slice_index, length-append, length-take}
+use Rattle.std.proofs.lemmas.Bool.{lt-ltb}
 use Rattle.script_words.specs.Words.{joined, plain_len, quoted_len, spaced, word_len, words_from, words_of}
 use Rattle.guest_language.proofs.SpacedLines.{single_spaced}
 
@@ -47,19 +47,16 @@ record IsShort (skip : ℕ) (bs : List ℕ) : Type 0 where
 no_more : (skip : ℕ) → IsShort skip []
 no_more skip = record { begun = omega arith; ended = λ e. omega arith }
 
-positive : (k : ℕ) → nat_lt 0 (suc k) ≡ true
-positive k = grind (arith, nat_tests)
-
 skip_one : (k : ℕ) (b : ℕ) (bs : List ℕ) → words_from (suc k) (b ∷ bs) ≡ words_from k bs
 skip_one k b bs =
     let less : suc k - 1 ≡ k = omega arith in
-    rw (positive k) (ap (λ (n : ℕ). words_from n bs) less)
+    rw (lt-ltb 0 (suc k) (omega arith)) (ap (λ (n : ℕ). words_from n bs) less)
 
 later : (k : ℕ) (b : ℕ) (bs : List ℕ) → IsShort k bs → IsShort (suc k) (b ∷ bs)
 later k b bs h = record {
-    begun = subst (λ (ws : List (List ℕ)). length (spaced ws) ≤ length (b ∷ bs) + 1 - suc k) (sym (skip_one k b bs)) (omega (arith, h.begun));
-    ended = λ e. let short = h.ended e in subst (λ (ws : List (List ℕ)). length (spaced ws) ≤ length (b ∷ bs) - suc k) (sym (skip_one k b bs)) (omega (arith, short))
-  }
+  begun = subst (λ (ws : List (List ℕ)). length (spaced ws) ≤ length (b ∷ bs) + 1 - suc k) (sym (skip_one k b bs)) (omega (arith, h.begun));
+  ended = λ e. let short = h.ended e in subst (λ (ws : List (List ℕ)). length (spaced ws) ≤ length (b ∷ bs) - suc k) (sym (skip_one k b bs)) (omega (arith, short));
+}
 
 -- a word, and the words behind it
 with_word : (b n : ℕ) (bs : List ℕ) (ws : List (List ℕ)) → length (spaced ws) ≤ length bs - n → length (spaced ((b ∷ take n bs) ∷ ws)) ≤ length (b ∷ bs) + 1
@@ -70,12 +67,12 @@ less_none n m h = omega (arith, h)
 
 here : (b : ℕ) (bs : List ℕ) → IsShort 0 bs → IsShort (word_len b bs) bs → IsShort 0 (b ∷ bs)
 here b bs after behind = record {
-    begun = less_none (length (spaced (words_from 0 (b ∷ bs)))) (length (b ∷ bs) + 1) (elim (b == 32) as (λ d. length (spaced (cond d (words_from 0 bs) ((b ∷ take (word_len b bs) bs) ∷ words_from (word_len b bs) bs))) ≤ length (b ∷ bs) + 1) [
-      | true ↦ omega (arith, after.begun)
-      | false ↦ with_word b (word_len b bs) bs (words_from (word_len b bs) bs) (behind.ended (word_ends b bs))
-    ]);
-    ended = λ e. less_none (length (spaced (words_from 0 (b ∷ bs)))) (length (b ∷ bs)) (subst (λ (d : Bool). length (spaced (cond d (words_from 0 bs) ((b ∷ take (word_len b bs) bs) ∷ words_from (word_len b bs) bs))) ≤ length (b ∷ bs)) (sym e) (omega (arith, after.begun)))
-  }
+  begun = less_none (length (spaced (words_from 0 (b ∷ bs)))) (length (b ∷ bs) + 1) (elim (b == 32) as (λ d. length (spaced (cond d (words_from 0 bs) ((b ∷ take (word_len b bs) bs) ∷ words_from (word_len b bs) bs))) ≤ length (b ∷ bs) + 1) [
+    | true ↦ omega (arith, after.begun)
+    | false ↦ with_word b (word_len b bs) bs (words_from (word_len b bs) bs) (behind.ended (word_ends b bs))
+  ]);
+  ended = λ e. less_none (length (spaced (words_from 0 (b ∷ bs)))) (length (b ∷ bs)) (subst (λ (d : Bool). length (spaced (cond d (words_from 0 bs) ((b ∷ take (word_len b bs) bs) ∷ words_from (word_len b bs) bs))) ≤ length (b ∷ bs)) (sym e) (omega (arith, after.begun)));
+}
 
 is_short : (skip : ℕ) (bs : List ℕ) → IsShort skip bs
 is_short skip [] = no_more skip

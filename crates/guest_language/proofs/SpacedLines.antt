@@ -1,7 +1,6 @@
 -- A line with single spaces reads as the line does.
-use Rattle.std.proofs.Common.{◌≡◌, ℕ, zero, suc, ◌+◌, ◌-◌, ◌<◌, ◌≤◌, ◌==◌, ◌&&◌, Bool, true, false, cond, not, List, [], ◌∷◌, ◌++◌, length, take, refl, ap, sym, ◌∙◌, subst, arith, nat_lt, slice_index}
-use Rattle.std.specs.List.{list_all}
-use Rattle.std.proofs.lemmas.Bool.{and_parts, and_from, eqb-true}
+use Rattle.std.proofs.Common.{◌≡◌, ℕ, zero, suc, ◌-◌, ◌==◌, true, false, cond, List, [], ◌∷◌, ◌++◌, take, refl, nat_lt, slice_index}
+use Rattle.std.proofs.lemmas.Bool.{and_parts, and_from}
 use Rattle.script_words.specs.Words.{joined, spaced, word_len, words_from, words_of}
 use Rattle.guest_language.specs.Sections.{is_printed}
 

@@ -1,8 +1,7 @@
 -- The lines that are read are the parts' lines, and blank ones behind them.
-use Rattle.std.proofs.Common.{◌≡◌, ℕ, zero, suc, ◌+◌, ◌-◌, ◌≤◌, ◌==◌, inl, inr, Bool, true, false, cond, List, [], ◌∷◌, ◌++◌, map, Result, Ok, Err, refl, ap, sym, ◌∙◌, subst, append_assoc, arith, replicate}
+use Rattle.std.proofs.Common.{◌≡◌, ℕ, suc, ◌+◌, ◌-◌, ◌≤◌, inl, inr, true, List, [], ◌∷◌, ◌++◌, map, Result, Ok, Err, refl, ap, sym, ◌∙◌, append_assoc, arith, replicate}
 use Rattle.std.specs.List.{AllByRecursion}
 use Rattle.std.proofs.lemmas.List.{append-nil}
-use Rattle.guest_language.specs.declared.fault.ScriptFault.{ScriptFault}
 use Rattle.guest_language.specs.declared.fault.ScriptKind.{ScriptKind}
 use Rattle.guest_language.specs.declared.script.Section.{Section}
 use Rattle.guest_language.specs.Sections.{is_printed, next, step, steps}
@@ -53,7 +52,7 @@ one_more names ss at text texts more out line rest = by_line line.adds
           filled = rest.filled;
           lines = ap (λ (l : List ℕ). l ∷ texts) blank.0 ∙ ap (λ (ls : List (List ℕ)). [] ∷ ls) rest.lines ∙ before.1;
           printed = (line.printed, rest.printed);
-          again = again_more names ss at text texts more out line.again rest.again
+          again = again_more names ss at text texts more out line.again rest.again;
         }
     by_line (inr new) =
         let none : 0 ≡ at - at = omega arith in
@@ -65,7 +64,7 @@ one_more names ss at text texts more out line rest = by_line line.adds
           filled = (new.1, rest.filled);
           lines = ap (λ (ls : List (List ℕ)). text ∷ ls) rest.lines ∙ ap (λ (n : ℕ). (replicate n [] ++ (text ∷ lines_at (at + 1) rest.parts)) ++ replicate rest.blanks []) none;
           printed = (line.printed, rest.printed);
-          again = again_more names ss at text texts more out line.again rest.again
+          again = again_more names ss at text texts more out line.again rest.again;
         }
 
 pub lines_read : (names : List (List ℕ)) (ss : List Section) (at : ℕ) (lines : List (List ℕ)) (out : List Section) → steps names ss at lines ≡ Ok out → ReadsLines names ss at (map single_spaced lines) out
@@ -79,7 +78,7 @@ lines_read names ss at [] out h =
       filled = tt;
       lines = refl;
       printed = tt;
-      again = h
+      again = h;
     }
 lines_read names ss at (line ∷ lines) out h = by_step (step names ss at line) refl (λ more. lines_read names more (at + 1) lines out) h
   where

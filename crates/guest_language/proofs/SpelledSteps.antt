@@ -1,7 +1,6 @@
 -- A line that is read adds a line of its words to the parts of a script, or nothing.
-use Rattle.std.proofs.Common.{◌≡◌, ℕ, ◌+◌, ◌-◌, ◌==◌, ◌⊎◌, inl, inr, Bool, true, false, cond, not, List, [], ◌∷◌, ◌++◌, length, map, set, get_or, Option, Some, None, Result, Ok, Err, refl, ap, sym, ◌∙◌, subst, append_assoc, arith, slice_index}
+use Rattle.std.proofs.Common.{◌≡◌, ℕ, ◌-◌, ◌==◌, ◌⊎◌, inl, inr, true, false, cond, not, List, [], ◌∷◌, ◌++◌, length, set, get_or, Option, None, Result, Ok, Err, refl, ap, sym, ◌∙◌, subst, append_assoc, arith, slice_index}
 use Rattle.std.specs.Prelude.{codes}
-use Rattle.std.specs.List.{flat_map}
 use Rattle.std.specs.Str.{bytes_eq}
 use Rattle.std.proofs.lemmas.Bool.{eqb-true}
 use Rattle.std.proofs.lemmas.Grind.{flat_map-append}
@@ -44,14 +43,17 @@ parts_add (s ∷ ss) line h =
 named_step : (ss : List Section) (at : ℕ) (words : List (List ℕ)) (new : List Section) → guest_step ss at words ≡ Ok new → (name : List ℕ) × (words ≡ name ∷ []) × (ss ++ record { name = name; at = at; lines = [] } ∷ [] ≡ new)
 named_step ss at [] new h = absurd (cc)
 named_step ss at (a ∷ b ∷ words) new h = absurd (cc)
-named_step ss at (name ∷ []) new h = (name, refl,
-    elim (is_name name) as (λ b. cond (not b) (Err kind.BadName) (cond (is_taken ss name) (Err kind.GuestTwice) pushed) ≡ Ok new → more ≡ new) [
-      | false ↦ λ h. absurd (cc)
-      | true ↦ λ h. elim (is_taken ss name) as (λ c. cond c (Err kind.GuestTwice) pushed ≡ Ok new → more ≡ new) [
-        | true ↦ λ h. absurd (cc)
-        | false ↦ λ h. cc
-      ] h
-    ] h)
+named_step ss at (name ∷ []) new h = (
+  name,
+  refl,
+  elim (is_name name) as (λ b. cond (not b) (Err kind.BadName) (cond (is_taken ss name) (Err kind.GuestTwice) pushed) ≡ Ok new → more ≡ new) [
+    | false ↦ λ h. absurd (cc)
+    | true ↦ λ h. elim (is_taken ss name) as (λ c. cond c (Err kind.GuestTwice) pushed ≡ Ok new → more ≡ new) [
+      | true ↦ λ h. absurd (cc)
+      | false ↦ λ h. cc
+    ] h
+  ] h,
+)
   where
     more : List Section
     more = ss ++ record { name = name; at = at; lines = [] } ∷ []
@@ -128,10 +130,10 @@ step_as names ss at text p c = rw (p, c) refl
 
 words_read : (names : List (List ℕ)) (ss : List Section) (at : ℕ) (line : List ℕ) (new : List Section) → is_printed line ≡ true → words_step names ss at (words_of line) ≡ Ok new → ReadsAs names ss at (joined (words_of line)) new
 words_read names ss at line new p h = record {
-    printed = words_printed line p;
-    again = step_as names ss at (joined (words_of line)) (words_printed line p) (no_comment names ss at (words_of line) new h) ∙ ap (λ (words : List (List ℕ)). words_step names ss at words) (joined_again line) ∙ h;
-    adds = words_add names ss at (words_of line) new (joined_again line) h
-  }
+  printed = words_printed line p;
+  again = step_as names ss at (joined (words_of line)) (words_printed line p) (no_comment names ss at (words_of line) new h) ∙ ap (λ (words : List (List ℕ)). words_step names ss at words) (joined_again line) ∙ h;
+  adds = words_add names ss at (words_of line) new (joined_again line) h;
+}
 
 pub step_reads : (names : List (List ℕ)) (ss : List Section) (at : ℕ) (line : List ℕ) (new : List Section) → step names ss at line ≡ Ok new → ReadsAs names ss at (single_spaced line) new
 unfolding step
