@@ -26,7 +26,7 @@ fn is_revents(bits: u16) -> bool
 
 /// Appends the name of a bit behind `|`, where it is set.
 #[tactic(auto, unfolding(crate::specs::Answered::bar))]
-fn put_bar(out: &mut Octets, bits: u16, bit: u16, name: &[u8]) -> Result<(), NoMemory>
+pub fn put_bar(out: &mut Octets, bits: u64, bit: u64, name: &[u8]) -> Result<(), NoMemory>
     requires { 1 ≤ bit }
     ensures { OnOk result (out.new ≡ out.old ++ bar bits bit name.now) }
 {
@@ -42,6 +42,7 @@ fn put_bar(out: &mut Octets, bits: u16, bit: u16, name: &[u8]) -> Result<(), NoM
 fn revents_bars(alloc: Global, bits: u16) -> Result<Octets, NoMemory>
     ensures { IfOk result (λ text. text ≡ revents_bars bits) }
 {
+    let bits = u64::from(bits);
     let mut out = Octets::none(alloc);
     put_bar(&mut out, bits, 1, b"in")?;
     put_bar(&mut out, bits, 4, b"out")?;

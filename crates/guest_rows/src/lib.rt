@@ -9,5 +9,5 @@ mod row;
 mod tests;
 
 pub use added::Addition;
-pub use answered::{PollPart, entries_text};
+pub use answered::{PollPart, entries_text, put_bar};
 pub use row::{Row, RowResult, SideName, put_answer, row_text};
