@@ -1,5 +1,5 @@
 -- What holds of no sections, and is kept by a new one and by a line more, holds of every script.
-use Rattle.std.proofs.Common.{◌≡◌, ℕ, ◌+◌, ◌-◌, ◌==◌, ◌||◌, Bool, true, false, cond, not, List, [], ◌∷◌, ◌++◌, length, Option, Some, None, Result, Ok, Err, refl, ap, sym, ◌∙◌, subst, slice_index}
+use Rattle.std.proofs.Common.{◌≡◌, ℕ, ◌+◌, ◌==◌, ◌||◌, Bool, true, false, cond, not, List, [], ◌∷◌, ◌++◌, length, Option, Some, None, Result, Ok, Err, refl, ap, sym, ◌∙◌, subst, slice_index}
 use Rattle.std.specs.Prelude.{codes}
 use Rattle.std.specs.Str.{bytes_eq}
 use Rattle.guest_language.specs.declared.fault.ScriptFault.{ScriptFault}
@@ -122,7 +122,7 @@ steps_keep P push add names ss at (line ∷ lines) new h p = by_step (step names
     by_step (Err e1) e rec h = absurd (cc)
     by_step (Ok more) e rec h = rec more h (step_keeps P push add names ss at line more e p)
 
-circle_free : (r : Result (List Section) ScriptFault) (script : List Section) → uncircled r ≡ Ok script → r ≡ Ok script
+pub circle_free : (r : Result (List Section) ScriptFault) (script : List Section) → uncircled r ≡ Ok script → r ≡ Ok script
 circle_free (Err e1) script h = absurd (cc)
 circle_free (Ok ss) script h =
     elim (has_circle ss) as (λ b. cond b (Err (whole_fault kind.Circle)) sound ≡ Ok script → sound ≡ Ok script) [

@@ -1,3 +1,10 @@
 pub mod MemoryLaws
 pub mod Keeping
 pub mod FactLaws
+pub mod SpacedLines
+pub mod ShortLines
+pub mod SpelledSteps
+pub mod SpelledLines
+pub mod SameNames
+pub mod JoinedLines
+pub mod SpelledScript

@@ -8,3 +8,4 @@ pub mod Forks
 pub mod Script
 pub mod Memory
 pub mod Facts
+pub mod Spelling

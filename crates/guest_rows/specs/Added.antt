@@ -1,10 +1,11 @@
--- What a row adds to the value of a call that succeeded.
+-- What the text of an answer adds to the value of a call that succeeded.
 use Rattle.std.specs.Prelude.{ℕ, ◌==◌, ◌++◌, List, None, Option, Some, [], ◌∷◌, codes, if◌then◌else◌, length, nat_lt, take}
 use Rattle.std.specs.Fmt.{decimal}
 use Rattle.kern_model.specs.declared.outcome.OutPiece.{OutPiece}
 use Rattle.sp_base.specs.declared.names.Answer.{Answer}
-use Rattle.guest_language.specs.declared.verb.Verb.{Verb}
-use Rattle.guest_language.specs.declared.verb.Verb.TheVariants.{Fstat, Getpeername, Getsockname, Pipe, Poll, Pread, Read, Recvfrom, Socketpair, Stat}
+use Rattle.guest_rows.specs.declared.added.Addition.{Addition}
+use Rattle.guest_rows.specs.declared.added.Addition.TheVariants.{Address, Bytes, Entries, Nothing, Received, SecondValue, Stat}
+use Rattle.guest_rows.specs.declared.answered.PollPart.TheVariants.{Answered}
 use Rattle.guest_rows.specs.Answered.{entries_text}
 use Rattle.guest_rows.specs.Fields.{u32_in, u64_in}
 use Rattle.script_words.specs.Addresses.{address_text}
@@ -90,21 +91,16 @@ abbrev pub or_nothing : Option (List ℕ) → List ℕ
 or_nothing None = []
 or_nothing (Some text) = text
 
--- what a poll adds: as many entries as its line has words behind the timeout
-abbrev pub entries_added : List (List ℕ) → List OutPiece → List ℕ
-entries_added [] outs = []
-entries_added (timeout ∷ words) outs = or_nothing (entries_text words (first_bytes outs))
+-- what a poll of so many entries adds
+abbrev pub entries_added : ℕ → List OutPiece → List ℕ
+entries_added count outs = or_nothing (entries_text Answered count (first_bytes outs))
 
--- what a row adds to the value of a call that succeeded, by the call and the words behind it
-abbrev pub added : Option Verb → List (List ℕ) → Answer → List OutPiece → List ℕ
-added (Some Read) words answer outs = read_added answer outs
-added (Some Pread) words answer outs = read_added answer outs
-added (Some Recvfrom) words answer outs = received answer outs
-added (Some Pipe) words answer outs = 32 ∷ decimal answer.ret1
-added (Some Socketpair) words answer outs = 32 ∷ decimal answer.ret1
-added (Some Fstat) words answer outs = stat_text (first_bytes outs)
-added (Some Stat) words answer outs = stat_text (first_bytes outs)
-added (Some Getsockname) words answer outs = name_added answer.ret0 outs
-added (Some Getpeername) words answer outs = name_added answer.ret0 outs
-added (Some Poll) words answer outs = entries_added words outs
-added _ words answer outs = []
+-- what an answer's text adds to the value, by the kind of addition
+abbrev pub added : Addition → Answer → List OutPiece → List ℕ
+added Nothing answer outs = []
+added Bytes answer outs = read_added answer outs
+added Received answer outs = received answer outs
+added SecondValue answer outs = 32 ∷ decimal answer.ret1
+added Stat answer outs = stat_text (first_bytes outs)
+added Address answer outs = name_added answer.ret0 outs
+added (Entries count) answer outs = entries_added count outs

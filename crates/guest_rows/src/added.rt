@@ -1,16 +1,33 @@
-//! What a row adds to the value of a call that succeeded.
+//! What the text of an answer adds to the value of a call that succeeded.
 ghost use Rattle.std.specs.Fmt.{decimal};
 ghost use Rattle.script_words.specs.Spelling.{quoted};
 ghost use Rattle.std.specs.Prelude.{◌≡◌, ◌∷◌, IfOk, MatchOption, None, Some, map};
 ghost use Rattle.guest_rows.specs.Added.{added, address_in, data_of, entries_added, first_bytes, name_added, read_added, received, sender_outs, stat_kind, stat_text};
 
-use crate::answered::entries_text;
+use crate::answered::{PollPart, entries_text};
 use crate::field::{u32_at, u64_at};
-use guest_language::Verb;
 use kern_model::OutPiece;
 use script_words::{address_text, put_number, put_quoted};
 use sp_base::{Answer, NoMemory, Octets};
 use std::alloc::Global;
+
+/// What the text of a call's answer adds to the value.
+#[derive(Clone, Copy, Debug, PartialEq, Eq)]
+pub enum Addition {
+    Nothing,
+    /// The bytes that were read, in quotes.
+    Bytes,
+    /// The bytes that were received, in quotes, and the sender's address where it told one.
+    Received,
+    /// The second value.
+    SecondValue,
+    /// The kind of a node, and its links, its size and its number.
+    Stat,
+    /// The address of a socket.
+    Address,
+    /// So many entries of a poll.
+    Entries(u64),
+}
 
 /// The first so many bytes of the first piece; none where there are fewer.
 fn data_of(count: u64, outs: &[OutPiece]) -> Option<&[u8]>
@@ -151,14 +168,11 @@ fn first_bytes(outs: &[OutPiece]) -> &[u8]
     }
 }
 
-/// What a poll adds: as many entries as its line has words behind the timeout.
-fn entries_added(alloc: Global, words: &[&[u8]], outs: &[OutPiece]) -> Result<Octets, NoMemory>
-    ensures { IfOk result (λ text. text ≡ entries_added (map (λ w. w.now) words.now) outs.now) }
+/// What a poll of so many entries adds.
+fn entries_added(alloc: Global, count: u64, outs: &[OutPiece]) -> Result<Octets, NoMemory>
+    ensures { IfOk result (λ text. text ≡ entries_added count outs.now) }
 {
-    let [_, entries @ ..] = words else {
-        return Ok(Octets::none(alloc));
-    };
-    match entries_text(alloc, entries, first_bytes(outs))? {
+    match entries_text(alloc, PollPart::Answered, count, first_bytes(outs))? {
         Some(text) => Ok(text),
         None => Ok(Octets::none(alloc)),
     }
@@ -174,25 +188,22 @@ fn second_added(alloc: Global, answer: &Answer) -> Result<Octets, NoMemory>
     Ok(out)
 }
 
-/// What a row adds to the value of a call that succeeded, by the call and the words behind it.
+/// What an answer's text adds to the value, by the kind of addition.
 pub fn added(
     alloc: Global,
-    verb: Option<Verb>,
-    words: &[&[u8]],
+    addition: Addition,
     answer: &Answer,
     outs: &[OutPiece],
 ) -> Result<Octets, NoMemory>
-    ensures { IfOk result (λ text. text ≡ added verb (map (λ w. w.now) words.now) answer.now outs.now) }
+    ensures { IfOk result (λ text. text ≡ added addition answer.now outs.now) }
 {
-    match verb {
-        Some(Verb::Read) | Some(Verb::Pread) => read_added(alloc, answer, outs),
-        Some(Verb::Recvfrom) => received(alloc, answer, outs),
-        Some(Verb::Pipe) | Some(Verb::Socketpair) => second_added(alloc, answer),
-        Some(Verb::Fstat) | Some(Verb::Stat) => stat_text(alloc, first_bytes(outs)),
-        Some(Verb::Getsockname) | Some(Verb::Getpeername) => {
-            name_added(alloc, answer.ret0, outs)
-        }
-        Some(Verb::Poll) => entries_added(alloc, words, outs),
-        _ => Ok(Octets::none(alloc)),
+    match addition {
+        Addition::Nothing => Ok(Octets::none(alloc)),
+        Addition::Bytes => read_added(alloc, answer, outs),
+        Addition::Received => received(alloc, answer, outs),
+        Addition::SecondValue => second_added(alloc, answer),
+        Addition::Stat => stat_text(alloc, first_bytes(outs)),
+        Addition::Address => name_added(alloc, answer.ret0, outs),
+        Addition::Entries(count) => entries_added(alloc, count, outs),
     }
 }

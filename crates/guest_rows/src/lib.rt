@@ -8,4 +8,6 @@ mod row;
 #[cfg(test)]
 mod tests;
 
-pub use row::{Row, RowResult, SideName, row_text};
+pub use added::Addition;
+pub use answered::{PollPart, entries_text, put_bar};
+pub use row::{Row, RowResult, SideName, put_answer, row_text};

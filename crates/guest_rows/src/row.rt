@@ -1,9 +1,9 @@
 //! A row: how a line of a guest went.
 ghost use Rattle.std.specs.Prelude.{◌≡◌, ◌++◌, IfOk, OnOk, map};
 ghost use Rattle.script_words.specs.Words.{words_of};
-ghost use Rattle.guest_rows.specs.Rows.{answer_text, behind, error_text, gave_text, place_text, result_text, row_text, side_text, verb_in};
+ghost use Rattle.guest_rows.specs.Rows.{addition_of, answer_text, behind, count_behind, error_text, gave_text, place_text, result_text, row_text, side_text, verb_in, words_addition};
 
-use crate::added::added;
+use crate::added::{Addition, added};
 use guest_language::{Verb, call_words, verb_of};
 use kern_model::{OutPiece, Outs};
 use script_words::{put_number, words_of};
@@ -81,22 +81,52 @@ fn behind<'a, 'b>(words: &'b [&'a [u8]]) -> &'b [&'a [u8]]
     }
 }
 
-/// Appends the answer of a call of these words.
+/// How many words stand behind the first.
+fn count_behind(words: &[&[u8]]) -> u64
+    ensures { result ≡ count_behind (map (λ w. w.now) words.now) }
+{
+    behind(words).len() as u64
+}
+
+/// What the row of a call adds to its value, by the call and the words behind it.
+fn addition_of(verb: Option<Verb>, words: &[&[u8]]) -> Addition
+    ensures { result ≡ addition_of verb (map (λ w. w.now) words.now) }
+{
+    match verb {
+        Some(Verb::Read) | Some(Verb::Pread) => Addition::Bytes,
+        Some(Verb::Recvfrom) => Addition::Received,
+        Some(Verb::Pipe) | Some(Verb::Socketpair) => Addition::SecondValue,
+        Some(Verb::Fstat) | Some(Verb::Stat) => Addition::Stat,
+        Some(Verb::Getsockname) | Some(Verb::Getpeername) => Addition::Address,
+        Some(Verb::Poll) => Addition::Entries(count_behind(words)),
+        _ => Addition::Nothing,
+    }
+}
+
+/// What the row of a call of these words adds.
+fn words_addition(words: &[&[u8]]) -> Addition
+    ensures { result ≡ words_addition (map (λ w. w.now) words.now) }
+{
+    addition_of(verb_in(words), behind(words))
+}
+
+/// Appends an answer: -1 and the error, or the value and what is added to it. An error leaves some of
+/// the text behind.
 #[tactic(auto, unfolding(crate::specs::Rows::answer_text))]
-fn put_answer(
+pub fn put_answer(
     alloc: Global,
     out: &mut Octets,
-    words: &[&[u8]],
+    addition: Addition,
     answer: &Answer,
     outs: &[OutPiece],
 ) -> Result<(), NoMemory>
-    ensures { OnOk result (out.new ≡ out.old ++ answer_text (map (λ w. w.now) words.now) answer.now outs.now) }
+    ensures { OnOk result (out.new ≡ out.old ++ answer_text addition answer.now outs.now) }
 {
     if answer.err != 0 {
         out.extend(b"-1 ")?;
         return put_error(out, answer.err);
     }
-    let more = added(alloc, verb_in(words), behind(words), answer, outs)?;
+    let more = added(alloc, addition, answer, outs)?;
     put_number(out, answer.ret0)?;
     out.extend(more.slice())
 }
@@ -112,7 +142,8 @@ fn put_gave(
     ensures { OnOk result (out.new ≡ out.old ++ gave_text line.now answer.now outs.now) }
 {
     let words = words_of(alloc, line)?;
-    put_answer(alloc, out, call_words(words.as_slice()), answer, outs)
+    let addition = words_addition(call_words(words.as_slice()));
+    put_answer(alloc, out, addition, answer, outs)
 }
 
 /// Appends how a line ended.

@@ -1,0 +1,4 @@
+pub mod Names
+pub mod Gathered
+pub mod Forms
+pub mod Entries
