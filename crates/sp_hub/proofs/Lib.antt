@@ -1,11 +1,4 @@
-pub mod KernelLaws
-pub mod Performs
-pub mod Lists
-pub mod Calls
-pub mod Sound
-pub mod Verdicts
-pub mod Steps
-pub mod Machines
-pub mod LowestCall
-pub mod Replies
-pub mod Told
+pub mod RoomLaws
+pub mod Copies
+pub mod At
+pub mod Exits

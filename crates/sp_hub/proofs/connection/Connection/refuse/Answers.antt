@@ -1,0 +1,16 @@
+use Rattle.std.proofs.Common.{◌≡◌, ◌≤◌, ◌+◌, ◌-◌, refl, sym, ap, subst, ◌∙◌, arith}
+use Rattle.sp_base.specs.Kept.{Room}
+use Rattle.sp_frames.specs.declared.frame.Frame.{Frame}
+use Rattle.sp_hub.proofs.RoomLaws.{room_more}
+use Rattle.sp_hub.proofs.connection.Connection.refuse.Goals as goal
+
+pub invariant_of-self : goal.invariant_of-self
+invariant_of-self c speaks =
+    let same = ap (λ (r : Room Frame). r.spare) c.in_err-keep.ensures.err in
+    room_more c.self.inside.calls c.self.inside.queue.spare c.keep.new.self.spare (c.self.invariant speaks) (omega arith)
+
+pub invariant_of-self-2 : goal.invariant_of-self-2
+invariant_of-self-2 c speaks =
+    let more = ap (λ (r : Room Frame). r.spare) c.in_ok-keep.ensures.ok in
+    let less = c.put_kept.ensures.spare in
+    room_more c.self.inside.calls c.self.inside.queue.spare c.put_kept.new.self.spare (c.self.invariant speaks) (omega arith)

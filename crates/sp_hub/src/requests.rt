@@ -1,0 +1,102 @@
+ghost use Rattle.std.specs.Prelude.{◌≡◌, Some, None, IfOk, OnOk, OnErr, IsSome, IsTrue, Option};
+ghost use Rattle.std.specs.FinMap as map;
+ghost use Rattle.kern_model.specs.Journal.{next_entry, state_after};
+ghost use Rattle.kern_model.specs.declared.journal.Who.TheVariants.{Request};
+ghost use Rattle.kern_model.specs.declared.operation.Op.TheVariants as op;
+ghost use Rattle.sp_hub.specs.At.{condition_in};
+ghost use Rattle.hub_model.specs.Ends.{nothing_read, drain};
+ghost use Rattle.hub_model.specs.Frames.{answered_kind, last_error};
+ghost use Rattle.hub_model.specs.Requests as requests;
+ghost use Rattle.hub_model.specs.Sound.{IsSound};
+ghost use Rattle.hub_model.specs.State as state;
+ghost use Rattle.hub_model.specs.State.{speaks};
+ghost use Rattle.hub_model.specs.declared.event.Reply.TheVariants as reply;
+ghost use Rattle.hub_model.specs.declared.state.OpenCall.{OpenCall};
+ghost use Rattle.sp_frames.specs.declared.frame.Frame.{Frame};
+
+use crate::connection::Connection;
+use crate::core::Core;
+use crate::{frames, kernel, verdict};
+use hub_model::{Reply, Verdict};
+use sp_base::{Call, ConnNo, Errno, NoMemory, Octets, ReqNo, SpError};
+use sp_frames::{Body, Frame};
+use std::alloc::Global;
+
+/// The bytes that a copy brings, moved out of its frame.
+fn bytes_in(alloc: Global, body: Body) -> Octets
+    ensures { result ≡ requests.bytes_in body }
+{
+    match body {
+        Body::GotBytes { bytes, .. } | Body::GotText { bytes, .. } => bytes,
+        _ => Octets::none(alloc),
+    }
+}
+
+impl Core {
+    /// A request is refused: its error is queued, and its number is used up.
+    fn refuse(&mut self, no: ConnNo, frame: &Frame, why: SpError) -> Result<Reply, NoMemory>
+        requires { IsSome (map.get self.old.connections no.0) }
+        ensures reply { (x : state.Connection) → map.get self.old.connections no.0 ≡ Some x
+            → IfOk result (λ r. r ≡ (requests.refuse self.old no x frame.now why (answered_kind frame.now.body)).0) }
+        ensures state { (x : state.Connection) → map.get self.old.connections no.0 ≡ Some x
+            → OnOk result (self.new ≡ (requests.refuse self.old no x frame.now why (answered_kind frame.now.body)).1) }
+        ensures err { OnErr result (self.new ≡ self.old) }
+    {
+        let Some(kind) = frames::answered_kind(&frame.body) else {
+            return Ok(Reply::Refused(why));
+        };
+        let error = frames::refusal(frame.number, kind, why);
+        let mut connection = Connection::blank(self.alloc);
+        self.connections.swap(no.0 as u64, &mut connection);
+        let result = connection.refuse(frame.number, error);
+        self.connections.swap(no.0 as u64, &mut connection);
+        result?;
+        Ok(Reply::Refused(why))
+    }
+
+    /// A call is open from its request on.
+    fn open_call(&mut self, no: ConnNo, frame: &Frame, call: Call) -> Result<Reply, NoMemory>
+        requires { IsSome (map.get self.old.connections no.0) }
+        ensures reply { IfOk result (λ r. r ≡ reply.Task frame.now.number) }
+        ensures state { (x : state.Connection) → map.get self.old.connections no.0 ≡ Some x
+            → OnOk result (self.new ≡ (requests.open_task self.old no x frame.now call).1) }
+        ensures err { OnErr result (self.new ≡ self.old) }
+    {
+        let mut connection = Connection::blank(self.alloc);
+        self.connections.swap(no.0 as u64, &mut connection);
+        let result = connection.open_call(frame.number, call);
+        self.connections.swap(no.0 as u64, &mut connection);
+        result?;
+        Ok(Reply::Task(frame.number))
+    }
+
+    /// A call goes on with the bytes of a copy.
+    fn add_copy(&mut self, no: ConnNo, number: ReqNo, bytes: Octets) -> Result<Reply, NoMemory>
+        requires there { IsSome (map.get self.old.connections no.0) }
+        requires call { (x : state.Connection) → map.get self.old.connections no.0 ≡ Some x → IsSome (map.get x.calls number.0) }
+        ensures reply { IfOk result (λ r. r ≡ reply.Task number) }
+        ensures state { (x : state.Connection) (t : OpenCall) → map.get self.old.connections no.0 ≡ Some x → map.get x.calls number.0 ≡ Some t
+            → OnOk result (self.new ≡ state.with_connection self.old no (record x { calls = map.insert x.calls number.0 (requests.with_copy t bytes) })) }
+        ensures err { OnErr result (self.new ≡ self.old) }
+    {
+        let mut connection = Connection::blank(self.alloc);
+        self.connections.swap(no.0 as u64, &mut connection);
+        let result = connection.add_copy(number, bytes);
+        self.connections.swap(no.0 as u64, &mut connection);
+        result?;
+        Ok(Reply::Task(number))
+    }
+
+    /// The asking of a call ends with an error; takes no memory.
+    fn fail_call(&mut self, no: ConnNo, number: ReqNo, error: Errno)
+        requires there { IsSome (map.get self.old.connections no.0) }
+        requires call { (x : state.Connection) → map.get self.old.connections no.0 ≡ Some x → IsSome (map.get x.calls number.0) }
+        ensures { (x : state.Connection) (t : OpenCall) → map.get self.old.connections no.0 ≡ Some x → map.get x.calls number.0 ≡ Some t
+            → self.new ≡ state.with_connection self.old no (record x { calls = map.insert x.calls number.0 (requests.with_error t error) }) }
+    {
+        let mut connection = Connection::blank(self.alloc);
+        self.connections.swap(no.0 as u64, &mut connection);
+        connection.fail_call(number, error);
+        self.connections.swap(no.0 as u64, &mut connection);
+    }
+}
