@@ -1,13 +1,12 @@
 -- The copies of what a call reads.
-use Rattle.std.proofs.Common.{◌≡◌, ◌≢◌, ℕ, Bool, true, false, Option, Some, None, refl, ap, ◌∙◌}
-use Rattle.std.specs.Prelude.{◌==◌, ◌&&◌, nat_eq, if◌then◌else◌}
+use Rattle.std.proofs.Common.{◌≡◌, ℕ, false, Option, Some, None, refl, ap, ◌∙◌}
+use Rattle.std.specs.Prelude.{◌==◌, ◌&&◌, if◌then◌else◌}
 use Rattle.std.proofs.lemmas.Grind.{common_steps}
 use Rattle.std.proofs.lemmas.Bool.Decides.{nat_tests}
 use Rattle.std.proofs.Common.{arith}
 use Rattle.sp_base.specs.declared.need.Need.{Need}
 use Rattle.sp_frames.specs.declared.frame.Body.{Body}
 use Rattle.hub_model.specs.Verdict.{need_verdict, is_index, index_in, is_copy_of, copy_by_error}
-use Rattle.hub_model.specs.declared.verdict.Verdict.{Verdict}
 use Rattle.hub_model.specs.declared.verdict.Verdict.TheVariants.{Malformed}
 
 not_index : (index count : ℕ) → (index ≡ count → ⊥) → (index == count) ≡ false

@@ -1,9 +1,10 @@
-ghost use Rattle.std.specs.Prelude.{◌≡◌, ◌∷◌, ◌++◌, [], Some, None, IfOk, OnOk, OnErr, IsTrue, IsSome, MatchOption, is_some, false, length, slice_get};
+ghost use Rattle.std.specs.Prelude.{◌≡◌, ◌∷◌, ◌++◌, [], Some, None, IfOk, IfSome, OnOk, OnErr, IsTrue, IsSome, MatchOption, is_some, false, length, slice_get};
 ghost use Rattle.std.specs.Option.{option_copied};
 ghost use Rattle.std.specs.FinMap as map;
 ghost use Rattle.sp_base.specs.declared.call.Call.{Call};
 ghost use Rattle.sp_base.specs.declared.need.Need.{Need};
 ghost use Rattle.sp_base.specs.Needs.{needs_of};
+ghost use Rattle.sp_frames.specs.Grammar.{Fits};
 ghost use Rattle.sp_hub.specs.Calls.{with_ask};
 ghost use Rattle.hub_model.specs.Ends.{draining};
 ghost use Rattle.hub_model.specs.Frames.{ask, hello, refusal};
@@ -26,7 +27,8 @@ use tables::Table;
 
 /// A connection that isn't over.
 ///
-/// While its client may send something its queue keeps room for an error of each call that waits, and for its last error.
+/// While its client may send something its queue keeps room for an error of each call that waits, and for its last error. Each
+/// frame in the queue is within its row.
 #[derive(Drop)]
 pub(crate) struct Connection {
     alloc: Global,
@@ -37,7 +39,7 @@ pub(crate) struct Connection {
 }
 
 impl Model for Connection {
-    ghost use Rattle.sp_hub.specs.Room.{KeepsErrorRoom};
+    ghost use Rattle.sp_hub.specs.Room.{IsQueue};
     ghost use Rattle.hub_model.specs.State as state;
     ghost use Rattle.hub_model.specs.Code.{connection_code};
 
@@ -47,7 +49,7 @@ impl Model for Connection {
 
     ghost view = { λ x. record { condition = x.condition; last = x.last; calls = x.calls; queue = x.queue.items } };
 
-    ghost invariant = { λ x. KeepsErrorRoom x.condition x.calls x.queue.spare };
+    ghost invariant = { λ x. IsQueue x.condition x.calls x.queue };
 }
 
 impl Connection {
@@ -107,7 +109,8 @@ impl Connection {
 
     /// Drains it: it drops its calls, takes nothing more, and sends what is queued, with an error as its last frame.
     pub(crate) fn drain(&mut self, error: Frame)
-        requires { IsTrue (speaks self.old.condition) }
+        requires speaks { IsTrue (speaks self.old.condition) }
+        requires fits { Fits error }
         ensures { self.new ≡ draining self.old error }
     {
         self.condition = Condition::Draining;
@@ -117,6 +120,7 @@ impl Connection {
 
     /// Refuses a request: its error is queued and its number is used up. An error leaves all as it was.
     pub(crate) fn refuse(&mut self, number: ReqNo, error: Frame) -> Result<(), NoMemory>
+        requires { Fits error }
         ensures ok { OnOk result (self.new ≡ record self.old { last = number.0; queue = self.old.queue ++ error ∷ [] }) }
         ensures err { OnErr result (self.new ≡ self.old) }
     {
@@ -128,7 +132,8 @@ impl Connection {
 
     /// Takes the oldest queued frame away; a response ends its call.
     pub(crate) fn take(&mut self) -> Option<Frame>
-        ensures { MatchOption result ((self.old.queue ≡ []) × (self.new ≡ self.old))
+        ensures fits { IfSome result Fits }
+        ensures state { MatchOption result ((self.old.queue ≡ []) × (self.new ≡ self.old))
             (λ f. (self.old.queue ≡ f ∷ self.new.queue)
             × (self.new ≡ record self.old { calls = calls_after self.old.calls f; queue = self.new.queue })) }
     {
@@ -167,7 +172,8 @@ impl Connection {
 
     /// Makes it the connection of a new process, with the response of its handshake behind the queued frames.
     pub(crate) fn attach(&mut self, number: ReqNo, pid: Pid, hello: Frame) -> Result<(), NoMemory>
-        requires { IsTrue (speaks self.old.condition) }
+        requires speaks { IsTrue (speaks self.old.condition) }
+        requires fits { Fits hello }
         ensures ok { OnOk result (self.new ≡ record self.old {
           condition = condition.Live pid;
           last = number.0;
@@ -210,7 +216,8 @@ impl Connection {
 
     /// Queues an ask for what a call reads next. An error leaves all as it was.
     pub(crate) fn ask(&mut self, number: ReqNo, ask: Frame) -> Result<(), NoMemory>
-        requires { IsSome (map.get self.old.calls number.0) }
+        requires call { IsSome (map.get self.old.calls number.0) }
+        requires fits { Fits ask }
         ensures ok { OnOk result ((t : OpenCall) → map.get self.old.calls number.0 ≡ Some t
             → self.new ≡ record self.old { calls = map.insert self.old.calls number.0 (with_ask t); queue = self.old.queue ++ ask ∷ [] }) }
         ensures err { OnErr result (self.new ≡ self.old) }

@@ -1,4 +1,6 @@
-ghost use Rattle.std.specs.Prelude.{◌≡◌};
+ghost use Rattle.std.specs.Prelude.{◌≡◌, ◌<◌, true, IfSome};
+ghost use Rattle.sp_frames.specs.Grammar.{Fits, may_be_refused};
+ghost use Rattle.sp_frames.specs.declared.frame.TheConstants.{INDEX_LIMIT};
 ghost use Rattle.hub_model.specs.Frames.{ask, hello, refusal, last_error, answered_kind};
 
 use sp_base::{Need, Pid, ReqNo, SpError};
@@ -6,7 +8,8 @@ use sp_frames::{Body, Frame};
 
 /// The response of a handshake.
 pub(crate) fn hello(number: ReqNo, pid: Pid) -> Frame
-    ensures { result ≡ hello number pid.0 }
+    ensures frame { result ≡ hello number pid.0 }
+    ensures fits { Fits result }
 {
     Frame {
         number,
@@ -16,7 +19,9 @@ pub(crate) fn hello(number: ReqNo, pid: Pid) -> Frame
 
 /// An ask for what a call reads, by its index.
 pub(crate) fn ask(number: ReqNo, index: u32, need: Need) -> Frame
-    ensures { result ≡ ask number index need }
+    requires { index < INDEX_LIMIT }
+    ensures frame { result ≡ ask number index need }
+    ensures fits { Fits result }
 {
     let body = match need {
         Need::Bytes(addr, len) => Body::AskBytes { index, addr, len },
@@ -31,7 +36,8 @@ pub(crate) fn ask(number: ReqNo, index: u32, need: Need) -> Frame
 
 /// The type of a request that an error frame may answer; None for every other frame.
 pub(crate) fn answered_kind(body: &Body) -> Option<u16>
-    ensures { result ≡ answered_kind body.now }
+    ensures kind { result ≡ answered_kind body.now }
+    ensures fits { IfSome result (λ kind. may_be_refused kind ≡ true) }
 {
     match body {
         Body::Guest { .. } | Body::Join { .. } | Body::Image { .. } => Some(0),
@@ -44,7 +50,9 @@ pub(crate) fn answered_kind(body: &Body) -> Option<u16>
 
 /// An error frame.
 pub(crate) fn refusal(number: ReqNo, kind: u16, why: SpError) -> Frame
-    ensures { result ≡ refusal number kind why }
+    requires { may_be_refused kind ≡ true }
+    ensures frame { result ≡ refusal number kind why }
+    ensures fits { Fits result }
 {
     Frame {
         number,
@@ -54,7 +62,9 @@ pub(crate) fn refusal(number: ReqNo, kind: u16, why: SpError) -> Frame
 
 /// The last error of a connection: it answers the request that is malformed, or nothing by name.
 pub(crate) fn last_error(number: ReqNo, kind: Option<u16>) -> Frame
-    ensures { result ≡ last_error number kind }
+    requires { IfSome kind (λ kind. may_be_refused kind ≡ true) }
+    ensures frame { result ≡ last_error number kind }
+    ensures fits { Fits result }
 {
     match kind {
         Some(kind) => refusal(number, kind, SpError::Malformed),

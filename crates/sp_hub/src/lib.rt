@@ -2,8 +2,8 @@
 #![tactic(auto)]
 
 mod connection;
-mod core;
 mod frames;
 mod kernel;
+mod machine;
 mod requests;
 mod verdict;

@@ -15,7 +15,7 @@ ghost use Rattle.hub_model.specs.declared.state.OpenCall.{OpenCall};
 ghost use Rattle.sp_frames.specs.declared.frame.Frame.{Frame};
 
 use crate::connection::Connection;
-use crate::core::Core;
+use crate::machine::Core;
 use crate::{frames, kernel, verdict};
 use hub_model::{Reply, Verdict};
 use sp_base::{Call, ConnNo, Errno, NoMemory, Octets, ReqNo, SpError};

@@ -1,9 +1,7 @@
-use Rattle.std.proofs.Common.{◌≡◌, ◌∙◌, ◌+◌, ◌≤◌, List, refl, sym, ap, subst, arith}
+use Rattle.std.proofs.Common.{◌∙◌, ◌+◌, ◌≤◌, refl, sym, ap, arith}
 use Rattle.std.specs.Option.{option_copied}
-use Rattle.std.specs.Prelude.{count_by, is_some, max}
-use Rattle.sp_base.specs.Kept.{Room}
+use Rattle.std.specs.Prelude.{count_by, is_some}
 use Rattle.kern_model.specs.Journal.{state_after}
-use Rattle.kern_model.specs.declared.journal.Entry.{Entry}
 use Rattle.sp_hub.proofs.Exits.{attach_room, few_processes, last_is, last_below, attached}
 use Rattle.sp_hub.proofs.kernel.attach.Goals as goal
 

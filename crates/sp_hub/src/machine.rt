@@ -5,6 +5,8 @@ ghost use Rattle.kern_model.specs.Journal.{IsLegal, next_entry, state_after};
 ghost use Rattle.kern_model.specs.declared.journal.Entry.{Entry};
 ghost use Rattle.kern_model.specs.declared.journal.Who.TheVariants.{Request};
 ghost use Rattle.kern_model.specs.declared.operation.Op.TheVariants as op;
+ghost use Rattle.sp_frames.specs.Grammar.{Fits};
+ghost use Rattle.sp_frames.specs.declared.frame.Frame as frame;
 ghost use Rattle.sp_hub.specs.At.{condition_in};
 ghost use Rattle.hub_model.specs.Ends.{exit_of, close, drain, end_at, lose_at, nothing_read};
 ghost use Rattle.hub_model.specs.Frames.{answered_kind, last_error};
@@ -129,6 +131,7 @@ impl Core {
 
     /// The oldest queued frame of a connection is handed out; takes no memory.
     pub(crate) fn take(&mut self, no: ConnNo) -> Reply
+        ensures fits { (frame : frame.Frame) → result ≡ reply.Out frame → Fits frame }
         ensures reply { result ≡ (take_at self.old no (map.get self.old.connections no.0)).0 }
         ensures state { self.new ≡ (take_at self.old no (map.get self.old.connections no.0)).1 }
     {
@@ -167,6 +170,7 @@ impl Core {
     fn drain(&mut self, no: ConnNo, condition: Condition, error: Frame)
         requires at { condition_in (map.get self.old.connections no.0) ≡ Some condition }
         requires speaks { IsTrue (speaks condition) }
+        requires fits { Fits error }
         requires live { (pid : Pid) → state.process_in condition ≡ Some pid
             → IsSome (at (state_after self.old.journal).processes pid.0) }
         ensures { (x : state.Connection) → map.get self.old.connections no.0 ≡ Some x
