@@ -4,3 +4,4 @@ pub mod At
 pub mod Exits
 pub mod Handshakes
 pub mod Heard
+pub mod Lowest
