@@ -5,3 +5,4 @@ pub mod Exits
 pub mod Handshakes
 pub mod Heard
 pub mod Lowest
+pub mod Replies

@@ -3,7 +3,13 @@
 
 mod connection;
 mod frames;
+mod hub;
 mod kernel;
 mod machine;
 mod requests;
 mod verdict;
+mod work;
+
+pub use hub::Hub;
+pub use hub_model::{Condition, Event, Finish, OPEN_CALLS, OpenCall, Reply, Verdict};
+pub use sp_frames::Version;
