@@ -17,6 +17,8 @@ ghost use Rattle.hub_model.specs.declared.state.Condition.TheVariants as conditi
 ghost use Rattle.hub_model.specs.declared.state.OpenCall.{OpenCall};
 ghost use Rattle.hub_model.specs.declared.state.OpenCall.TheVariants as task;
 
+mod perform;
+
 use hub_model::{Condition, OpenCall};
 use kern_model::Pieces;
 use sp_base::{Call, Errno, Items, KeptQueue, NoMemory, Octets, Pid, ReqNo, SpError};
