@@ -1,7 +1,6 @@
 -- The room for exits, when processes come and go.
-use Rattle.std.specs.Prelude.{is_some, count_by, slice_get}
-use Rattle.std.proofs.Common.{◌≡◌, ℕ, ◌+◌, ◌-◌, ◌≤◌, ◌<◌, Bool, true, false, List, [], ◌∷◌, ◌++◌, length, Option, Some, IsSome, refl, sym, ap, subst, ◌∙◌, arith}
-use Rattle.std.proofs.lemmas.List.{length_push}
+use Rattle.std.specs.Prelude.{is_some, count_by}
+use Rattle.std.proofs.Common.{◌≡◌, ℕ, ◌+◌, ◌≤◌, Bool, true, false, List, [], ◌∷◌, length, Option, Some, IsSome, sym, ap, ◌∙◌, arith}
 use Rattle.std.proofs.lemmas.List.Sums.{sum_by-cons}
 use Rattle.sp_base.specs.Kept.{Room}
 use Rattle.sp_base.specs.Table.{at}
@@ -9,7 +8,7 @@ use Rattle.sp_base.specs.declared.names.ConnNo.{ConnNo}
 use Rattle.sp_base.specs.declared.names.Pid.{Pid}
 use Rattle.sp_base.specs.declared.names.ReqNo.{ReqNo}
 use Rattle.sp_base.proofs.CountLaws.{one_if}
-use Rattle.kern_model.specs.Journal.{state_after, next_entry}
+use Rattle.kern_model.specs.Journal.{state_after}
 use Rattle.kern_model.specs.State.{State, Process}
 use Rattle.kern_model.specs.declared.journal.Entry.{Entry}
 use Rattle.kern_model.specs.declared.journal.Who.TheVariants.{End, Request}
@@ -18,8 +17,7 @@ use Rattle.kern_model.proofs.Lemmas.{exit_ends, attach_makes}
 use Rattle.kern_calls.specs.Kernel.{Performs}
 use Rattle.hub_model.specs.Ends.{nothing_read, exit_of, with_entry}
 use Rattle.hub_model.specs.Requests.{no_process}
-use Rattle.hub_model.proofs.Entries.{nexts, count_changed, process_numbers, attach_below}
-use Rattle.sp_hub.specs.Kernel.{Attaches}
+use Rattle.hub_model.proofs.Entries.{nexts, count_changed, process_numbers}
 use Rattle.sp_hub.specs.Room.{HasExitRoom}
 
 pub exit_journal : (old new : Room Entry) (pid : Pid) (c : ConnNo) (place : ℕ) → Performs old pid (End c) Exit nothing_read place new → new.items ≡ exit_of old.items c (Some pid)
@@ -62,33 +60,3 @@ count_below (x ∷ table) =
 -- there are few processes
 pub few_processes : (journal : List Entry) → count_by is_some (state_after journal).processes ≤ 258
 few_processes journal = let e = process_numbers journal in let le = count_below (state_after journal).processes in omega (arith, e, le)
-
-get_at_end : (xs : List Entry) (x : Entry) → slice_get (xs ++ x ∷ []) (length xs) ≡ Some x
-get_at_end [] x = refl
-get_at_end (y ∷ xs) x = get_at_end xs x
-
-shorter_by_one : (xs : List Entry) (x : Entry) → length (xs ++ x ∷ []) - 1 ≡ length xs
-shorter_by_one xs x = omega (arith, length_push xs x)
-
--- the last entry of a journal with one entry more
-pub get_last : (xs : List Entry) (x : Entry) → slice_get (xs ++ x ∷ []) (length (xs ++ x ∷ []) - 1) ≡ Some x
-get_last xs x = ap (slice_get (xs ++ x ∷ [])) (shorter_by_one xs x) ∙ get_at_end xs x
-
--- the entry of an attach is the last one
-pub last_is : (old new : Room Entry) (c : ConnNo) (number : ReqNo) (place : ℕ) (last : Option Entry) → (does : Performs old no_process (Request c number) Attach nothing_read place new) → last ≡ slice_get new.items (length new.items - 1) → last ≡ Some does.entry
-last_is old new c number place last does is = is ∙ (ap (λ (xs : List Entry). slice_get xs (length xs - 1)) does.items ∙ get_last old.items does.entry)
-
-pub last_below : (old new : Room Entry) (c : ConnNo) (number : ReqNo) (place : ℕ) (last : Entry) → Performs old no_process (Request c number) Attach nothing_read place new → Some last ≡ slice_get new.items (length new.items - 1) → last.outcome.ret0 < 258
-last_below old new c number place last does is =
-    let n = nexts old.items no_process (Request c number) Attach nothing_read does.entry does.is in
-    let below = attach_below (state_after old.items) does.entry.outcome n.next n.acts (process_numbers old.items) in
-    let there = last_is old new c number place (Some last) does is in
-    let same : last ≡ does.entry = cc in
-    subst (λ (e : Entry). e.outcome.ret0 < 258) (sym same) below
-
-pub attached : (old new : Room Entry) (c : ConnNo) (number : ReqNo) (place : ℕ) (last : Entry) → Performs old no_process (Request c number) Attach nothing_read place new → Some last ≡ slice_get new.items (length new.items - 1)
-    → Attaches old.items (next_entry old.items no_process (Request c number) Attach nothing_read) (Some (record { 0 = last.outcome.ret0 })) new.items
-attached old new c number place last does is =
-    let there = last_is old new c number place (Some last) does is in
-    let same : last ≡ does.entry = cc in
-    rw (does.is, same) (refl, does.items)

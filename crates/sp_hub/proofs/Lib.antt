@@ -2,6 +2,8 @@ pub mod RoomLaws
 pub mod Copies
 pub mod At
 pub mod Exits
+pub mod Handshakes
+pub mod Heard
 pub mod Outs
 pub mod Told
 pub mod Works

@@ -1,14 +1,19 @@
 ghost use Rattle.std.specs.Prelude.{◌≡◌, ◌∷◌, ◌++◌, [], Some, None, IfOk, IfSome, OnOk, OnErr, IsTrue, IsSome, MatchOption, is_some, false, length, slice_get};
 ghost use Rattle.std.specs.Option.{option_copied};
 ghost use Rattle.std.specs.FinMap as map;
+ghost use Rattle.kern_model.specs.Journal.{next_entry};
+ghost use Rattle.kern_model.specs.declared.journal.Who.TheVariants.{Request};
+ghost use Rattle.kern_model.specs.declared.operation.Op.TheVariants as op;
 ghost use Rattle.sp_base.specs.declared.call.Call.{Call};
 ghost use Rattle.sp_base.specs.declared.need.Need.{Need};
 ghost use Rattle.sp_base.specs.Needs.{needs_of};
 ghost use Rattle.sp_frames.specs.Grammar.{Fits};
 ghost use Rattle.sp_hub.specs.Calls.{with_ask};
-ghost use Rattle.hub_model.specs.Ends.{draining};
+ghost use Rattle.sp_hub.specs.Kernel.{Attaches};
+ghost use Rattle.sp_hub.specs.Room.{HasExitRoom};
+ghost use Rattle.hub_model.specs.Ends.{draining, nothing_read};
 ghost use Rattle.hub_model.specs.Frames.{ask, hello, refusal};
-ghost use Rattle.hub_model.specs.Requests.{with_copy, with_error};
+ghost use Rattle.hub_model.specs.Requests.{no_process, with_copy, with_error};
 ghost use Rattle.hub_model.specs.Sound.{is_waiting};
 ghost use Rattle.hub_model.specs.State as state;
 ghost use Rattle.hub_model.specs.State.{speaks, fresh_connection};
@@ -19,9 +24,11 @@ ghost use Rattle.hub_model.specs.declared.state.OpenCall.TheVariants as task;
 
 mod perform;
 
+use crate::{frames, kernel};
 use hub_model::{Condition, OpenCall};
+use kern_calls::Kernel;
 use kern_model::Pieces;
-use sp_base::{Call, Errno, Items, KeptQueue, NoMemory, Octets, Pid, ReqNo, SpError};
+use sp_base::{Call, ConnNo, Errno, Items, KeptQueue, NoMemory, Octets, Pid, ReqNo, SpError};
 use sp_frames::{Body, Frame};
 use std::alloc::Global;
 use std::marker::Model;
@@ -173,21 +180,40 @@ impl Connection {
     }
 
     /// Makes it the connection of a new process, with the response of its handshake behind the queued frames.
-    pub(crate) fn attach(&mut self, number: ReqNo, pid: Pid, hello: Frame) -> Result<(), NoMemory>
+    ///
+    /// An error leaves it and the journal as they were.
+    pub(crate) fn attach(
+        &mut self,
+        kernel: &mut Kernel,
+        no: ConnNo,
+        number: ReqNo,
+    ) -> Result<Pid, NoMemory>
         requires speaks { IsTrue (speaks self.old.condition) }
-        requires fits { Fits hello }
-        ensures ok { OnOk result (self.new ≡ record self.old {
+        requires room { HasExitRoom kernel.old }
+        ensures journal { IfOk result (λ pid. Attaches kernel.old.items
+            (next_entry kernel.old.items no_process (Request no number) op.Attach nothing_read) pid kernel.new.items) }
+        ensures ok { IfOk result (λ pid. self.new ≡ record self.old {
           condition = condition.Live pid;
           last = number.0;
-          queue = self.old.queue ++ hello ∷ [];
+          queue = self.old.queue ++ hello number pid.0 ∷ [];
         }) }
         ensures err { OnErr result (self.new ≡ self.old) }
+        ensures err_journal { OnErr result (kernel.new.items ≡ kernel.old.items) }
+        ensures room { HasExitRoom kernel.new }
     {
         self.queue.keep(1)?;
-        self.queue.put_kept(hello);
-        self.condition = Condition::Live(pid);
-        self.last = number.0;
-        Ok(())
+        match kernel::attach(kernel, no, number) {
+            Ok(pid) => {
+                self.queue.put_kept(frames::hello(number, pid));
+                self.condition = Condition::Live(pid);
+                self.last = number.0;
+                Ok(pid)
+            }
+            Err(NoMemory) => {
+                self.queue.free(1);
+                Err(NoMemory)
+            }
+        }
     }
 
     /// Adds the bytes of a copy to what its call has gathered. An error leaves all as it was.

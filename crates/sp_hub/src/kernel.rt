@@ -27,12 +27,8 @@ pub(crate) fn exit(kernel: &mut Kernel, no: ConnNo, pid: Pid)
     }
 }
 
-/// Makes the process of a connection, and keeps room for its exit; None where it waits. An error leaves the journal as it was.
-pub(crate) fn attach(
-    kernel: &mut Kernel,
-    no: ConnNo,
-    number: ReqNo,
-) -> Result<Option<Pid>, NoMemory>
+/// Makes the process of a connection, and keeps room for its exit. An error leaves the journal as it was.
+pub(crate) fn attach(kernel: &mut Kernel, no: ConnNo, number: ReqNo) -> Result<Pid, NoMemory>
     requires room { HasExitRoom kernel.old }
     ensures ok { IfOk result (λ pid. Attaches kernel.old.items
         (next_entry kernel.old.items no_process (Request no number) op.Attach nothing_read) pid kernel.new.items) }
@@ -43,10 +39,10 @@ pub(crate) fn attach(
     let ins = Ins::Given(Items::none(kernel.alloc()));
     match kernel.act(Pid(0), Who::Request(no, number), Op::Attach, ins) {
         Acted::Done(_) => match kernel.journal().last() {
-            Some(entry) => Ok(Some(Pid(entry.outcome.ret0 as u32))),
+            Some(entry) => Ok(Pid(entry.outcome.ret0 as u32)),
             None => unreachable!(),
         },
-        Acted::NotReady => Ok(None),
+        Acted::NotReady => unreachable!(),
         Acted::NoMemory => Err(NoMemory),
     }
 }

@@ -123,7 +123,7 @@ impl Core {
     }
 
     /// How far a connection is; None where it is over or was never opened.
-    fn condition(&self, no: ConnNo) -> Option<Condition>
+    pub(crate) fn condition(&self, no: ConnNo) -> Option<Condition>
         ensures { result ≡ condition_in (map.get self.now.connections no.0) }
     {
         Some(self.connections.get(no.0 as u64)?.condition())
@@ -167,7 +167,7 @@ impl Core {
 
     /// A connection that speaks drains, with an error as its last frame, and its process exits; takes no memory.
     #[tactic(auto, using(crate::proofs::At::there))]
-    fn drain(&mut self, no: ConnNo, condition: Condition, error: Frame)
+    pub(crate) fn drain(&mut self, no: ConnNo, condition: Condition, error: Frame)
         requires at { condition_in (map.get self.old.connections no.0) ≡ Some condition }
         requires speaks { IsTrue (speaks condition) }
         requires fits { Fits error }

@@ -2,7 +2,8 @@ use Rattle.std.proofs.Common.{◌∙◌, ◌+◌, ◌≤◌, refl, sym, ap, arit
 use Rattle.std.specs.Option.{option_copied}
 use Rattle.std.specs.Prelude.{count_by, is_some}
 use Rattle.kern_model.specs.Journal.{state_after}
-use Rattle.sp_hub.proofs.Exits.{attach_room, few_processes, last_is, last_below, attached}
+use Rattle.sp_hub.proofs.Exits.{attach_room, few_processes}
+use Rattle.sp_hub.proofs.Handshakes.{last_is, last_below, attached}
 use Rattle.sp_hub.proofs.kernel.attach.Goals as goal
 
 pub overflow_add-processes : goal.overflow_add-processes
