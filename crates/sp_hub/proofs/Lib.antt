@@ -8,3 +8,4 @@ pub mod Outs
 pub mod Told
 pub mod Works
 pub mod Plays
+pub mod Asks

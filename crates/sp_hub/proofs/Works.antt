@@ -33,7 +33,7 @@ use Rattle.sp_hub.specs.declared.gathered.Gathered.{Gathered}
 use Rattle.sp_hub.specs.Outs.{HaveRooms}
 use Rattle.sp_hub.specs.Room.{HasErrorRoom, HasExitRoom}
 use Rattle.sp_hub.specs.Work.{waiting, HasAll, IsGathered, outs, next_of, FitsEnd, Appends}
-use Rattle.sp_hub.proofs.Exits.{get_last}
+use Rattle.sp_hub.proofs.Handshakes.{get_last}
 use Rattle.sp_hub.proofs.RoomLaws.{room_answered, room_more}
 use Rattle.sp_hub.proofs.Outs.{outs_have_rooms}
 

@@ -1,6 +1,6 @@
 -- Working a call that has all that it reads.
-use Rattle.std.specs.Prelude.{◌≡◌, ℕ, Bool, false, List, [], ◌∷◌, ◌++◌, length, Option, Some, IsSome}
-use Rattle.std.specs.FinMap.{get}
+use Rattle.std.specs.Prelude.{◌≡◌, ◌⊎◌, ℕ, Bool, false, List, [], ◌∷◌, ◌++◌, length, Option, Some, IsSome}
+use Rattle.std.specs.FinMap.{get, insert}
 use Rattle.sp_base.specs.Needs.{outs_of}
 use Rattle.sp_base.specs.Table.{at}
 use Rattle.sp_base.specs.declared.call.Call.{Call}
@@ -21,8 +21,10 @@ use Rattle.hub_model.specs.Frames.{told}
 use Rattle.hub_model.specs.State.{Connection, Machine, with_connection}
 use Rattle.hub_model.specs.Work.{performed}
 use Rattle.hub_model.specs.declared.event.Reply.{Reply}
+use Rattle.hub_model.specs.declared.event.Reply.TheVariants as reply
 use Rattle.hub_model.specs.declared.state.OpenCall.{OpenCall}
 use Rattle.hub_model.specs.declared.state.OpenCall.TheVariants.{Gathers, Fails}
+use Rattle.sp_hub.specs.Calls.{with_ask}
 use Rattle.sp_hub.specs.declared.gathered.Gathered.{Gathered}
 
 -- an open call that wasn't performed, and for which this was gathered
@@ -70,6 +72,13 @@ pub record Tells (old : List Entry) (queue : List Frame) (r : ReqNo) (next : Opt
   pub is : next ≡ Some entry
   pub journal : new ≡ old ++ entry ∷ []
   pub frames : queue' ≡ queue ++ told r entry.outcome (length old)
+
+-- an ask for what a call reads next is queued; or the memory for it is refused, and nothing changes
+abbrev pub IsAsked : Machine → ConnNo → ReqNo → Frame → Reply → Machine → Type 0
+IsAsked m c r ask answer m' =
+    (answer ≡ reply.Asked) × ((x : Connection) (t : OpenCall) → get m.connections c.0 ≡ Some x → get x.calls r.0 ≡ Some t
+        → m' ≡ with_connection m c (record x { calls = insert x.calls r.0 (with_ask t); queue = x.queue ++ ask ∷ [] }))
+    ⊎ (answer ≡ reply.NoMemory) × (m' ≡ m)
 
 -- the machine performs a call of a connection so, whatever else it holds: with memory, or with none
 abbrev pub Performs : ConnNo → ReqNo → Option Entry → List Entry → Connection → Reply → List Entry → Connection → Type 0

@@ -10,3 +10,4 @@ mod machine;
 mod requests;
 mod telling;
 mod verdict;
+mod work;
