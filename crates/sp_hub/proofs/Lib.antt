@@ -4,6 +4,7 @@ pub mod At
 pub mod Exits
 pub mod Handshakes
 pub mod Heard
+pub mod Lowest
 pub mod Outs
 pub mod Told
 pub mod Works

@@ -8,7 +8,7 @@ ghost use Rattle.sp_base.specs.declared.call.Call.{Call};
 ghost use Rattle.sp_base.specs.declared.need.Need.{Need};
 ghost use Rattle.sp_base.specs.Needs.{needs_of};
 ghost use Rattle.sp_frames.specs.Grammar.{Fits};
-ghost use Rattle.sp_hub.specs.Calls.{with_ask};
+ghost use Rattle.sp_hub.specs.Calls.{waits_in, with_ask};
 ghost use Rattle.sp_hub.specs.Kernel.{Attaches};
 ghost use Rattle.sp_hub.specs.Room.{HasExitRoom};
 ghost use Rattle.hub_model.specs.Ends.{draining, nothing_read};
@@ -17,6 +17,7 @@ ghost use Rattle.hub_model.specs.Requests.{no_process, with_copy, with_error};
 ghost use Rattle.hub_model.specs.Sound.{is_waiting};
 ghost use Rattle.hub_model.specs.State as state;
 ghost use Rattle.hub_model.specs.State.{speaks, fresh_connection};
+ghost use Rattle.hub_model.specs.Task.{IsLowest};
 ghost use Rattle.hub_model.specs.Work.{calls_after};
 ghost use Rattle.hub_model.specs.declared.state.Condition.TheVariants as condition;
 ghost use Rattle.hub_model.specs.declared.state.OpenCall.{OpenCall};
@@ -95,6 +96,13 @@ impl Connection {
         self.condition
     }
 
+    /// Whether its client may still send something.
+    pub(crate) fn speaks(&self) -> bool
+        ensures { result ≡ speaks self.now.condition }
+    {
+        !matches!(self.condition, Condition::Draining)
+    }
+
     /// The highest number of a request that was taken, 0 before the first one.
     pub(crate) fn last(&self) -> u64
         ensures { result ≡ self.now.last }
@@ -114,6 +122,24 @@ impl Connection {
         ensures { option_copied result ≡ map.get self.now.calls number.0 }
     {
         self.calls.get(number.0)
+    }
+
+    /// Whether the call of a number is open, and isn't performed yet.
+    fn waits(&self, number: u64) -> bool
+        ensures { result ≡ waits_in (map.get self.now.calls number) }
+    {
+        !matches!(self.calls.get(number), Some(OpenCall::Answers) | None)
+    }
+
+    /// The lowest number above a number under which a call is open and not performed; None where there is none.
+    pub(crate) fn lowest_task(&self, above: ReqNo) -> Option<ReqNo>
+        ensures { IsLowest self.now.calls above result }
+    {
+        let number = self
+            .calls
+            .keys()
+            .find(|number| **number > above.0 && self.waits(**number))?;
+        Some(ReqNo(*number))
     }
 
     /// Drains it: it drops its calls, takes nothing more, and sends what is queued, with an error as its last frame.

@@ -10,11 +10,12 @@ ghost use Rattle.sp_frames.specs.declared.frame.Frame as frame;
 ghost use Rattle.sp_hub.specs.At.{condition_in};
 ghost use Rattle.hub_model.specs.Ends.{exit_of, close, drain, end_at, lose_at, nothing_read};
 ghost use Rattle.hub_model.specs.Frames.{answered_kind, last_error};
-ghost use Rattle.hub_model.specs.Machine.{open_new, is_new};
+ghost use Rattle.hub_model.specs.Machine.{any_speaks, halt, open_new, is_new};
 ghost use Rattle.hub_model.specs.Requests as requests;
 ghost use Rattle.hub_model.specs.Sound.{IsSound};
 ghost use Rattle.hub_model.specs.State as state;
 ghost use Rattle.hub_model.specs.State.{fresh_machine, speaks};
+ghost use Rattle.hub_model.specs.Task.{IsLowest, open_calls};
 ghost use Rattle.hub_model.specs.Work.{take_at};
 ghost use Rattle.hub_model.specs.declared.event.Reply.{Reply};
 ghost use Rattle.hub_model.specs.declared.event.Reply.TheVariants as reply;
@@ -226,5 +227,32 @@ impl Core {
         };
         self.close(no, condition);
         Reply::Nothing
+    }
+
+    /// Whether some client may still send something.
+    fn any_speaks(&self) -> bool
+        ensures { result ≡ any_speaks self.now }
+    {
+        self.connections
+            .values()
+            .any(|connection| connection.speaks())
+    }
+
+    /// The server is to take nothing more.
+    pub(crate) fn halt(&mut self) -> Reply
+        ensures { (result, self.new) ≡ halt self.old }
+    {
+        if self.any_speaks() {
+            return Reply::NotQuiet;
+        }
+        self.halted = true;
+        Reply::Closed
+    }
+
+    /// The lowest number above a number under which a call of the connection is open and not performed.
+    pub(crate) fn lowest_task(&self, no: ConnNo, above: ReqNo) -> Option<ReqNo>
+        ensures { IsLowest (open_calls self.now no) above result }
+    {
+        self.connections.get(no.0 as u64)?.lowest_task(above)
     }
 }
