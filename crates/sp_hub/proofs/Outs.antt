@@ -1,13 +1,11 @@
 -- What a call writes has room at the places where it may write.
-use Rattle.std.specs.Prelude.{min, if◌then◌else◌}
-use Rattle.std.specs.Int.{to_le_bytes}
-use Rattle.std.proofs.Common.{◌≡◌, ℕ, ◌<◌, ◌≤◌, Bool, true, false, ◌==◌, List, [], ◌∷◌, ◌++◌, length, take, drop, Option, Some, None, refl, sym, ◌∙◌, arith, length-take, length-append}
+use Rattle.std.specs.Prelude.{if◌then◌else◌}
+use Rattle.std.proofs.Common.{◌≡◌, ℕ, ◌≤◌, Bool, true, false, ◌==◌, List, [], ◌∷◌, length, drop, Some, None, refl, arith, length-take}
 use Rattle.std.proofs.lemmas.Bool.{eqb-true, eqb-false}
-use Rattle.sp_base.specs.Needs.{range_of, transfer_of, transfer_range, stat_range, outs_of}
+use Rattle.sp_base.specs.Needs.{range_of, transfer_of, transfer_range, stat_range}
 use Rattle.sp_base.specs.declared.limits.TheConstants.{TRANSFER}
 use Rattle.sp_base.specs.declared.call.Call.{Call}
 use Rattle.sp_base.specs.declared.call.Call.TheVariants as call
-use Rattle.sp_base.specs.declared.errno.Errno.{Errno}
 use Rattle.sp_base.specs.declared.errno.Errno.TheVariants.{Enosys}
 use Rattle.kern_model.specs.declared.node.Object.{Object}
 use Rattle.kern_model.specs.declared.node.Object.TheVariants as object
@@ -19,17 +17,16 @@ use Rattle.kern_model.specs.declared.operation.Op.TheVariants.{Sys}
 use Rattle.kern_model.specs.declared.outcome.Outcome.{Outcome}
 use Rattle.kern_model.specs.declared.walk.Walked.{Walked}
 use Rattle.kern_model.specs.declared.walk.Walked.TheVariants.{Found, Missing, Faulty}
-use Rattle.kern_model.specs.Act.{first, second, act, act_call}
-use Rattle.kern_model.specs.Descriptors.{act_close, act_dup, act_dup2, act_fcntl}
-use Rattle.kern_model.specs.Files.{act_open, open_walked, bytes_from, act_read, read_file, act_pread, pread_file, act_write, write_file, act_pwrite, pwrite_file, act_lseek, seek_file, act_ftruncate, truncate_file, stat_bytes, stat_file, act_fstat, act_stat}
-use Rattle.kern_model.specs.Links.{act_link, act_unlink, rename_to, act_rename, act_mkdir, act_rmdir, act_chdir}
+use Rattle.kern_model.specs.Act.{first, act, act_call}
+use Rattle.kern_model.specs.Files.{open_walked, bytes_from, read_file, pread_file, write_file, pwrite_file, seek_file, truncate_file, stat_bytes, stat_file}
+use Rattle.kern_model.specs.Links.{rename_to}
 use Rattle.kern_model.specs.Name.{Path}
 use Rattle.kern_model.specs.Outcome.{failure}
 use Rattle.kern_model.specs.State.{State, bytes_of}
-use Rattle.kern_model.specs.Step.{Step, answered, wrote, piece_at}
+use Rattle.kern_model.specs.Step.{Step, answered, piece_at}
 use Rattle.kern_model.specs.Walk.{walk}
 use Rattle.kern_model.proofs.Holds.{Holds, HoldsOfErrors, holds_is, each_is, holds_failed, holds_answered, holds_wrote, holds_if, holds_fail_if, holds_or_fail, holds_found, holds_missing}
-use Rattle.sp_hub.specs.Outs.{IsWithin, HaveRooms, lens_of, rooms_of}
+use Rattle.sp_hub.specs.Outs.{HaveRooms, lens_of, rooms_of}
 
 -- what a step writes has these rooms
 abbrev pub Writes : List ℕ → Step → Type 0

@@ -1,9 +1,9 @@
 -- How the machine performs a call, by what became of it.
-use Rattle.std.specs.Prelude.{is_some, slice_get, if◌then◌else◌}
+use Rattle.std.specs.Prelude.{slice_get, if◌then◌else◌}
 use Rattle.std.specs.Option.{option_map}
 use Rattle.std.specs.Ordering.{nat_cmp}
 use Rattle.std.specs.FinMap.{FinMap, get, insert}
-use Rattle.std.proofs.Common.{◌≡◌, ◌⊎◌, inl, inr, ℕ, Bool, true, false, List, [], ◌∷◌, ◌++◌, length, Option, Some, None, IsSome, refl, sym, ap, subst, ◌∙◌}
+use Rattle.std.proofs.Common.{◌≡◌, inl, inr, ℕ, Bool, true, false, List, [], ◌∷◌, ◌++◌, length, Option, Some, None, IsSome, refl, sym, ap, subst, ◌∙◌}
 use Rattle.tables.proofs.Entries.{again, back}
 use Rattle.sp_base.specs.Needs.{needs_of}
 use Rattle.sp_base.specs.declared.call.Call.{Call}
@@ -16,16 +16,15 @@ use Rattle.sp_frames.specs.declared.frame.Frame.{Frame}
 use Rattle.kern_model.specs.declared.journal.Entry.{Entry}
 use Rattle.kern_model.specs.declared.operation.Ins.TheVariants.{Given, Fault}
 use Rattle.hub_model.proofs.Steps.{pieces_all}
-use Rattle.hub_model.specs.Frames.{told, refusal, ask}
+use Rattle.hub_model.specs.Frames.{refusal, ask}
 use Rattle.hub_model.specs.Machine.{Plays, played, played_running}
 use Rattle.hub_model.specs.Sound.{IsSound}
 use Rattle.hub_model.specs.declared.event.Event.{Event}
 use Rattle.hub_model.specs.declared.event.Event.TheVariants.{Work}
 use Rattle.hub_model.specs.declared.event.Reply.{Reply}
-use Rattle.hub_model.specs.State.{Connection, Machine, Played, with_connection, process_in}
-use Rattle.hub_model.specs.Work.{performed, perform}
+use Rattle.hub_model.specs.State.{Connection, Machine, with_connection, process_in}
+use Rattle.hub_model.specs.Work.{perform}
 use Rattle.hub_model.specs.declared.event.Reply.TheVariants as reply
-use Rattle.hub_model.specs.declared.state.OpenCall.{OpenCall}
 use Rattle.hub_model.specs.declared.state.OpenCall.TheVariants.{Gathers, Fails, Answers}
 use Rattle.sp_hub.specs.Work.{HasAll, IsAsked, Performs, Tells}
 

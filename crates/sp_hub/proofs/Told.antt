@@ -1,5 +1,5 @@
 -- What tells an outcome.
-use Rattle.std.proofs.Common.{◌≡◌, ℕ, zero, suc, ◌+◌, ◌≤◌, ◌<◌, List, [], ◌∷◌, ◌++◌, length, drop, refl, sym, ap, ◌∙◌, arith}
+use Rattle.std.proofs.Common.{ℕ, ◌≤◌, List, [], ◌∷◌, length, arith}
 use Rattle.kern_model.specs.declared.outcome.OutPiece.{OutPiece}
 use Rattle.sp_hub.specs.Outs.{HaveRooms}
 

@@ -77,7 +77,7 @@ pub record Tells (old : List Entry) (queue : List Frame) (r : ReqNo) (next : Opt
 abbrev pub IsAsked : Machine → ConnNo → ReqNo → Frame → Reply → Machine → Type 0
 IsAsked m c r ask answer m' =
     (answer ≡ reply.Asked) × ((x : Connection) (t : OpenCall) → get m.connections c.0 ≡ Some x → get x.calls r.0 ≡ Some t
-        → m' ≡ with_connection m c (record x { calls = insert x.calls r.0 (with_ask t); queue = x.queue ++ ask ∷ [] }))
+    → m' ≡ with_connection m c (record x { calls = insert x.calls r.0 (with_ask t); queue = x.queue ++ ask ∷ [] }))
     ⊎ (answer ≡ reply.NoMemory) × (m' ≡ m)
 
 -- the machine performs a call of a connection so, whatever else it holds: with memory, or with none

@@ -116,7 +116,8 @@ fn response(number: ReqNo, answer: Answer) -> Frame
 
 /// The response of a call, with its place in the journal.
 pub(crate) fn answered(number: ReqNo, outcome: &Outcome, place: Place) -> Frame
-    ensures frame { result ≡ record { number = number; body = body.Answered (answer_at outcome.now place.0) } }
+    ensures frame { result
+        ≡ record { number = number; body = body.Answered (answer_at outcome.now place.0) } }
     ensures fits { Fits result }
 {
     response(number, answer_of(outcome, place))

@@ -86,7 +86,8 @@ impl Gathered {
         requires fits { FitsEnd kernel.old.items self }
         requires ready { IsSome (next_of kernel.old.items self) }
         requires room { HasExitRoom kernel.old }
-        ensures ok { IfOk result (λ place. Appends kernel.old.items (next_of kernel.old.items self) place.0 kernel.new.items) }
+        ensures ok { IfOk result (λ place. Appends kernel.old.items
+            (next_of kernel.old.items self) place.0 kernel.new.items) }
         ensures err { OnErr result (kernel.new.items ≡ kernel.old.items) }
         ensures room { HasExitRoom kernel.new }
     {
@@ -101,15 +102,21 @@ impl Gathered {
 
     /// Performs it, and queues what tells its outcome: the response in a place that was kept, and the bytes to write in room that
     /// is taken first. An error leaves the journal and the queue as they were.
-    pub(crate) fn perform(self, kernel: &mut Kernel, queue: &mut KeptQueue<Frame>) -> Result<(), NoMemory>
+    pub(crate) fn perform(
+        self,
+        kernel: &mut Kernel,
+        queue: &mut KeptQueue<Frame>,
+    ) -> Result<(), NoMemory>
         requires fits { FitsEnd kernel.old.items self }
         requires ready { IsSome (next_of kernel.old.items self) }
         requires room { HasExitRoom kernel.old }
         requires place { 1 ≤ queue.old.spare }
-        ensures ok { OnOk result (Tells kernel.old.items queue.old.items self.number (next_of kernel.old.items self)
+        ensures ok { OnOk result (Tells kernel.old.items queue.old.items self.number
+            (next_of kernel.old.items self)
             kernel.new.items queue.new.items) }
         ensures spare { OnOk result (queue.new.spare + 1 ≡ queue.old.spare) }
-        ensures fits { AllByRecursion Fits queue.old.items → AllByRecursion Fits queue.new.items }
+        ensures fits { AllByRecursion Fits queue.old.items
+            → AllByRecursion Fits queue.new.items }
         ensures journal { OnErr result (kernel.new.items ≡ kernel.old.items) }
         ensures queue { OnErr result (queue.new ≡ queue.old) }
         ensures room { HasExitRoom kernel.new }

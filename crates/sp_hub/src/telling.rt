@@ -43,7 +43,12 @@ fn blanks(alloc: Global, ranges: &[Range]) -> Result<Items<Blank>, NoMemory>
 }
 
 /// Queues a Put for each piece, counted from 0 on, in memory and places that were kept.
-fn put_all(queue: &mut KeptQueue<Frame>, blanks: &mut Items<Blank>, number: ReqNo, pieces: &[OutPiece])
+fn put_all(
+    queue: &mut KeptQueue<Frame>,
+    blanks: &mut Items<Blank>,
+    number: ReqNo,
+    pieces: &[OutPiece],
+)
     requires rooms { HaveRooms blanks.old pieces.now }
     requires few { length blanks.old ≤ 8 }
     requires places { length blanks.old ≤ queue.old.spare }
@@ -62,9 +67,14 @@ fn put_all(queue: &mut KeptQueue<Frame>, blanks: &mut Items<Blank>, number: ReqN
 
 impl Telling {
     /// Takes the room for what is written at these places. An error leaves the queue as it was.
-    pub(crate) fn room(alloc: Global, queue: &mut KeptQueue<Frame>, ranges: &[Range]) -> Result<Telling, NoMemory>
+    pub(crate) fn room(
+        alloc: Global,
+        queue: &mut KeptQueue<Frame>,
+        ranges: &[Range],
+    ) -> Result<Telling, NoMemory>
         ensures room { IfOk result (λ telling. telling ≡ map (λ r. r.len) ranges.now) }
-        ensures ok { OnOk result (queue.new ≡ record queue.old { spare = queue.old.spare + length ranges.now }) }
+        ensures ok { OnOk result
+            (queue.new ≡ record queue.old { spare = queue.old.spare + length ranges.now }) }
         ensures err { OnErr result (queue.new ≡ queue.old) }
     {
         let blanks = blanks(alloc, ranges)?;
@@ -82,13 +92,20 @@ impl Telling {
     }
 
     /// Queues what tells an outcome, and gives back the places that it doesn't need; takes no memory.
-    pub(crate) fn tell(self, queue: &mut KeptQueue<Frame>, number: ReqNo, place: Place, outcome: &Outcome)
+    pub(crate) fn tell(
+        self,
+        queue: &mut KeptQueue<Frame>,
+        number: ReqNo,
+        place: Place,
+        outcome: &Outcome,
+    )
         requires rooms { HaveRooms self outcome.now.outs }
         requires few { length self ≤ 8 }
         requires places { length self + 1 ≤ queue.old.spare }
         ensures items { queue.new.items ≡ queue.old.items ++ told number outcome.now place.0 }
         ensures spare { queue.new.spare + (length self + 1) ≡ queue.old.spare }
-        ensures fits { AllByRecursion Fits queue.old.items → AllByRecursion Fits queue.new.items }
+        ensures fits { AllByRecursion Fits queue.old.items
+            → AllByRecursion Fits queue.new.items }
     {
         let mut blanks = self.blanks;
         put_all(queue, &mut blanks, number, outcome.outs.slice());

@@ -23,7 +23,7 @@ use sp_base::{Call, ConnNo, NoMemory, ReqNo};
 use sp_frames::Frame;
 
 /// An ask for the next of what a call reads; None where it has all.
-#[tactic(auto, using(crate::proofs::Asks::index_below, crate::proofs::Asks::index_small))]
+#[tactic(auto, using(crate::proofs::Asks::index_small))]
 fn next_ask(number: ReqNo, call: &Call, got: &Pieces) -> Option<Frame>
     ensures ask { result ≡ option_map (λ need. ask number (length got.now) need)
         (slice_get (needs_of call.now) (length got.now)) }
@@ -83,7 +83,8 @@ impl Core {
         requires there { IsSome (map.get self.old.connections no.0) }
         requires gathered { (x : state.Connection) → map.get self.old.connections no.0 ≡ Some x
             → (task : OpenCall) × (map.get x.calls number.0 ≡ Some task) × HasAll task }
-        ensures { (x : state.Connection) (call : Call) (ins : Ins) → map.get self.old.connections no.0 ≡ Some x
+        ensures { (x : state.Connection) (call : Call) (ins : Ins)
+            → map.get self.old.connections no.0 ≡ Some x
             → map.get x.calls number.0 ≡ Some (waiting call ins)
             → (memory : Bool) × ((result, self.new)
             ≡ perform memory self.old no x number call ins (state.process_in x.condition)) }

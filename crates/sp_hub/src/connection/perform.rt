@@ -23,14 +23,23 @@ impl Connection {
     ///
     /// Where the kernel isn't ready nothing changes. Where memory is refused the call ends unperformed, and an error is queued in
     /// the room that was kept for it.
-    pub(crate) fn perform(&mut self, kernel: &mut Kernel, pid: Pid, no: ConnNo, number: ReqNo) -> Reply
+    pub(crate) fn perform(
+        &mut self,
+        kernel: &mut Kernel,
+        pid: Pid,
+        no: ConnNo,
+        number: ReqNo,
+    ) -> Reply
         requires process { process_in self.old.condition ≡ Some pid }
         requires live { IsSome (at (state_after kernel.old.items).processes pid.0) }
         requires there { IsSome (map.get self.old.calls number.0) }
-        requires gathered { (task : OpenCall) → map.get self.old.calls number.0 ≡ Some task → HasAll task }
+        requires gathered { (task : OpenCall) → map.get self.old.calls number.0 ≡ Some task
+            → HasAll task }
         requires room { HasExitRoom kernel.old }
-        ensures performs { (call : Call) (ins : Ins) → map.get self.old.calls number.0 ≡ Some (waiting call ins)
-            → Performs no number (next_entry kernel.old.items pid (Request no number) (op.Sys call) ins)
+        ensures performs { (call : Call) (ins : Ins)
+            → map.get self.old.calls number.0 ≡ Some (waiting call ins)
+            → Performs no number
+            (next_entry kernel.old.items pid (Request no number) (op.Sys call) ins)
             kernel.old.items self.old result kernel.new.items self.new }
         ensures room { HasExitRoom kernel.new }
     {
@@ -45,7 +54,8 @@ impl Connection {
         match gathered.perform(kernel, &mut self.queue) {
             Ok(()) => Reply::Done,
             Err(NoMemory) => {
-                self.queue.put_kept(frames::refusal(number, 1, SpError::Memory));
+                self.queue
+                    .put_kept(frames::refusal(number, 1, SpError::Memory));
                 Reply::Refused(SpError::Memory)
             }
         }

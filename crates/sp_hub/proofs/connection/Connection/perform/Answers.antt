@@ -1,14 +1,12 @@
-use Rattle.std.proofs.Common.{◌≡◌, Option, Some, None, sym, ap, refl, subst, ◌∙◌}
+use Rattle.std.proofs.Common.{◌≡◌, Some, None, sym, ap, ◌∙◌}
 use Rattle.std.specs.FinMap as map
 use Rattle.sp_frames.specs.Grammar.{Fits}
 use Rattle.kern_model.specs.Journal.{next_entry}
 use Rattle.kern_model.specs.declared.journal.Who.TheVariants.{Request}
 use Rattle.kern_model.specs.declared.operation.Op.TheVariants.{Sys}
 use Rattle.hub_model.proofs.Keeps.{all_push}
-use Rattle.hub_model.specs.State.{Connection}
-use Rattle.hub_model.specs.declared.event.Reply.TheVariants as reply
 use Rattle.hub_model.specs.declared.state.OpenCall.{OpenCall}
-use Rattle.sp_hub.specs.Work.{waiting, HasAll, next_of, Performs}
+use Rattle.sp_hub.specs.Work.{waiting, next_of}
 use Rattle.sp_hub.specs.declared.gathered.Gathered.{Gathered}
 use Rattle.sp_hub.proofs.Plays.{plays_waiting}
 use Rattle.sp_hub.proofs.Works.{fits_end, taken, no_entry, room_after}
@@ -30,7 +28,7 @@ invariant_of-self c =
     let g = c.of-gathered.ensures all.call all.ins all.is in
     let task : c.into_task-task.result ≡ c.swap.new.value = c.into_task-task.ensures all.call (ap (λ (g : Gathered). g.op) g) ∙ ap (λ (g : Gathered). waiting all.call g.ins) g ∙ sym all.is in
     let calls : c.swap-then-not-is_ready.new.self ≡ c.self.inside.calls =
-        c.swap-then-not-is_ready.ensures.table ∙ ap (λ (t : OpenCall). map.insert c.swap.new.self c.args.number.0 t) task ∙ c.swap.ensures.back c.swap.new.value (sym c.swap.ensures.value) in
+    c.swap-then-not-is_ready.ensures.table ∙ ap (λ (t : OpenCall). map.insert c.swap.new.self c.args.number.0 t) task ∙ c.swap.ensures.back c.swap.new.value (sym c.swap.ensures.value) in
     rw calls c.self.invariant
 
 pub returns-then-not-is_ready-clause-performs : goal.returns-then-not-is_ready-clause-performs
@@ -40,7 +38,7 @@ returns-then-not-is_ready-clause-performs c call ins e =
     let g = c.of-gathered.ensures call ins is in
     let task : c.into_task-task.result ≡ c.swap.new.value = c.into_task-task.ensures call (ap (λ (g : Gathered). g.op) g) ∙ ap (λ (g : Gathered). waiting call g.ins) g ∙ sym is in
     let calls : c.swap-then-not-is_ready.new.self ≡ c.self.inside.calls =
-        c.swap-then-not-is_ready.ensures.table ∙ ap (λ (t : OpenCall). map.insert c.swap.new.self c.args.number.0 t) task ∙ c.swap.ensures.back c.swap.new.value (sym c.swap.ensures.value) in
+    c.swap-then-not-is_ready.ensures.table ∙ ap (λ (t : OpenCall). map.insert c.swap.new.self c.args.number.0 t) task ∙ c.swap.ensures.back c.swap.new.value (sym c.swap.ensures.value) in
     let next = next_entry c.args.kernel.now.items c.args.pid (Request c.args.no c.args.number) (Sys call) ins in
     let none : next ≡ None = sym (ap (next_of c.args.kernel.now.items) g) ∙ no_entry c.is_ready.result _ c.is_ready.ensures c.if-not-is_ready.true in
     let plays = plays_waiting c.args.no c.args.number next c.args.kernel.now.items c.args.self.now none in

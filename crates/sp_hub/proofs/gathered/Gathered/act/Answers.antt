@@ -1,5 +1,5 @@
-use Rattle.std.proofs.Common.{◌≡◌, ◌+◌, ◌≤◌, refl, sym, ap, arith}
-use Rattle.std.specs.Prelude.{count_by, is_some, max}
+use Rattle.std.proofs.Common.{◌+◌, ◌≤◌, arith}
+use Rattle.std.specs.Prelude.{count_by, is_some}
 use Rattle.kern_model.specs.Journal.{state_after}
 use Rattle.sp_hub.specs.Work.{FitsEnd}
 use Rattle.sp_hub.proofs.Exits.{few_processes}

@@ -1,4 +1,4 @@
-use Rattle.std.proofs.Common.{◌≡◌, ◌∙◌, refl, sym, ap}
+use Rattle.std.proofs.Common.{◌∙◌, sym, ap}
 use Rattle.std.specs.Option.{option_copied}
 use Rattle.sp_hub.proofs.Works.{rooms_for}
 use Rattle.sp_hub.proofs.gathered.Gathered.perform.Goals as goal
