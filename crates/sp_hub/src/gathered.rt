@@ -1,11 +1,9 @@
 ghost use Rattle.std.specs.Prelude.{◌≡◌, ◌≤◌, ◌+◌, ◌↔◌, Some, IsSome, IsTrue, IfOk, OnOk, OnErr};
 ghost use Rattle.std.specs.List.{AllByRecursion};
-ghost use Rattle.sp_base.specs.Table.{at};
 ghost use Rattle.sp_base.specs.declared.call.Call.{Call};
 ghost use Rattle.sp_frames.specs.Grammar.{Fits};
 ghost use Rattle.kern_model.specs.declared.operation.Ins.{Ins};
 ghost use Rattle.kern_model.specs.declared.operation.Op.TheVariants as op;
-ghost use Rattle.kern_model.specs.Needs.{FitsIns};
 ghost use Rattle.sp_hub.specs.Room.{HasExitRoom};
 ghost use Rattle.sp_hub.specs.Work.{waiting, HasAll, IsGathered, outs, next_of, FitsEnd, Appends, Tells};
 

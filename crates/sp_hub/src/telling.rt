@@ -1,6 +1,5 @@
-ghost use Rattle.std.specs.Prelude.{◌≡◌, ◌≤◌, ◌+◌, ◌∷◌, ◌++◌, [], length, take, map, OnOk, OnErr, IfOk};
+ghost use Rattle.std.specs.Prelude.{◌≡◌, ◌≤◌, ◌+◌, ◌++◌, length, map, OnOk, OnErr, IfOk};
 ghost use Rattle.std.specs.List.{AllByRecursion};
-ghost use Rattle.sp_base.specs.Needs.{outs_of};
 ghost use Rattle.sp_frames.specs.Grammar.{Fits};
 ghost use Rattle.hub_model.specs.Frames.{told, puts_from};
 ghost use Rattle.sp_hub.specs.Outs.{HaveRooms};
