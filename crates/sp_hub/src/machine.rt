@@ -58,7 +58,7 @@ impl Model for Core {
 }
 
 /// The process that a connection of a condition speaks for.
-fn process_in(condition: Condition) -> Option<Pid>
+pub(crate) fn process_in(condition: Condition) -> Option<Pid>
     ensures { result ≡ state.process_in condition }
 {
     match condition {
