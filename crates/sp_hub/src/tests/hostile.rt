@@ -182,9 +182,7 @@ fn play_row(rt: &impl Abort, alloc: Global, hub: &mut Hub, no: u32, row: Row) ->
 /// Plays rows, each on a connection of its own.
 fn play_rows(rt: &impl Abort, alloc: Global, rows: &[Row]) -> Result<(), Fail> {
     let mut hub = Hub::fresh(alloc)?;
-    let mut no = 0;
-    for row in rows.iter().take(100) {
-        no += 1;
+    for (no, row) in (1..100).zip(rows.iter()) {
         play_row(rt, alloc, &mut hub, no, *row)?;
     }
     Ok(())
