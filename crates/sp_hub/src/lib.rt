@@ -2,20 +2,8 @@
 #![tactic(auto)]
 
 mod connection;
-mod ends;
-mod event;
 mod frames;
-mod hub;
 mod kernel;
-mod refusals;
-mod room;
-mod tasks;
-#[cfg(test)]
-mod tests;
+mod machine;
+mod requests;
 mod verdict;
-mod work;
-
-pub use connection::{Condition, Connection, OpenCall};
-pub use event::{Event, Finish, Reply};
-pub use hub::Hub;
-pub use verdict::Verdict;
