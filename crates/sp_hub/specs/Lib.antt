@@ -2,3 +2,5 @@ pub mod Room
 pub mod Calls
 pub mod Kernel
 pub mod At
+pub mod Outs
+pub mod Work

@@ -23,6 +23,8 @@ ghost use Rattle.hub_model.specs.declared.state.Condition.TheVariants as conditi
 ghost use Rattle.hub_model.specs.declared.state.OpenCall.{OpenCall};
 ghost use Rattle.hub_model.specs.declared.state.OpenCall.TheVariants as task;
 
+mod perform;
+
 use crate::{frames, kernel};
 use hub_model::{Condition, OpenCall};
 use kern_calls::Kernel;

@@ -1,9 +1,13 @@
-ghost use Rattle.std.specs.Prelude.{◌≡◌, ◌<◌, true, IfSome};
+ghost use Rattle.std.specs.Prelude.{◌≡◌, ◌<◌, ◌≤◌, length, true, IfSome};
+ghost use Rattle.sp_base.specs.declared.limits.TheConstants.{TRANSFER};
+ghost use Rattle.sp_frames.specs.Fields.{IsBytes};
 ghost use Rattle.sp_frames.specs.Grammar.{Fits, may_be_refused};
+ghost use Rattle.sp_frames.specs.declared.frame.Body.TheVariants as body;
 ghost use Rattle.sp_frames.specs.declared.frame.TheConstants.{INDEX_LIMIT};
-ghost use Rattle.hub_model.specs.Frames.{ask, hello, refusal, last_error, answered_kind};
+ghost use Rattle.hub_model.specs.Frames.{answer_at, ask, hello, refusal, last_error, answered_kind};
 
-use sp_base::{Need, Pid, ReqNo, SpError};
+use kern_model::Outcome;
+use sp_base::{Answer, Need, Octets, Pid, Place, ReqNo, SpError};
 use sp_frames::{Body, Frame};
 
 /// The response of a handshake.
@@ -70,4 +74,51 @@ pub(crate) fn last_error(number: ReqNo, kind: Option<u16>) -> Frame
         Some(kind) => refusal(number, kind, SpError::Malformed),
         None => refusal(ReqNo(0), 0, SpError::Malformed),
     }
+}
+
+/// The bytes of a piece to write, by the piece's index.
+pub(crate) fn put(number: ReqNo, index: u32, addr: u64, bytes: Octets) -> Frame
+    requires index { index < INDEX_LIMIT }
+    requires some { 0 < length bytes }
+    requires few { length bytes ≤ TRANSFER }
+    requires bytes { IsBytes bytes }
+    ensures frame { result ≡ record { number = number; body = body.Put index addr bytes } }
+    ensures fits { Fits result }
+{
+    Frame {
+        number,
+        body: Body::Put { index, addr, bytes },
+    }
+}
+
+/// What a call answered, with its place in the journal.
+fn answer_of(outcome: &Outcome, place: Place) -> Answer
+    ensures { result ≡ answer_at outcome.now place.0 }
+{
+    Answer {
+        err: outcome.err,
+        ret0: outcome.ret0,
+        ret1: outcome.ret1,
+        place,
+    }
+}
+
+/// The response of a call.
+fn response(number: ReqNo, answer: Answer) -> Frame
+    ensures frame { result ≡ record { number = number; body = body.Answered answer } }
+    ensures fits { Fits result }
+{
+    Frame {
+        number,
+        body: Body::Answered(answer),
+    }
+}
+
+/// The response of a call, with its place in the journal.
+pub(crate) fn answered(number: ReqNo, outcome: &Outcome, place: Place) -> Frame
+    ensures frame { result
+        ≡ record { number = number; body = body.Answered (answer_at outcome.now place.0) } }
+    ensures fits { Fits result }
+{
+    response(number, answer_of(outcome, place))
 }
