@@ -1,18 +1,15 @@
 -- The lines of a section, one after another.
-use Rattle.std.proofs.Common.{◌≡◌, inl, inr, ℕ, zero, suc, ◌+◌, ◌<◌, ◌≤◌, List, [], ◌∷◌, ◌++◌, length, get_or, take, refl, sym, ap, subst, ◌∙◌, arith, append_assoc, length-append}
+use Rattle.std.proofs.Common.{◌≡◌, ℕ, zero, suc, ◌+◌, ◌<◌, ◌≤◌, List, [], ◌∷◌, ◌++◌, length, get_or, take, refl, sym, ap, subst, ◌∙◌, arith, append_assoc, length-append}
 use Rattle.std.proofs.lemmas.List.{append-nil, take_more, length-take}
 use Rattle.std.specs.List.{AllByRecursion}
-use Rattle.std.specs.Prelude.{IsTrue}
-use Rattle.sp_base.specs.declared.call.Call.{Call}
 use Rattle.sp_base.specs.declared.names.Answer.{Answer}
 use Rattle.sp_base.specs.declared.names.Pid.{Pid}
 use Rattle.kern_model.specs.Journal.{IsLegal, HasOwnKeys}
 use Rattle.kern_model.specs.declared.journal.Entry.{Entry}
 use Rattle.kern_model.specs.declared.operation.Op.TheVariants.{Sys}
 use Rattle.kern_model.specs.declared.outcome.Outcome.{Outcome}
-use Rattle.sp_hub.specs.Kernel.{answer_at}
-use Rattle.sp_hub.specs.Machine.{Machine}
-use Rattle.sp_hub.specs.Verdict.{is_taken}
+use Rattle.hub_model.specs.Frames.{answer_at}
+use Rattle.hub_model.specs.State.{Machine}
 use Rattle.guest_script.specs.Script.{IsLineCall, IsAskable}
 use Rattle.guest_script.specs.Row.{row_text}
 use Rattle.guest_script.specs.declared.script.Line.{Line}
@@ -27,13 +24,9 @@ line_at P [] i line all lt is = absurd (omega arith)
 line_at P (x ∷ lines) zero line all lt is = subst P (sym is) all.0
 line_at P (x ∷ lines) (suc i) line all lt is = line_at P lines i line all.1 (omega arith) is
 
--- the server takes what a line says
-said_taken : (call : Call) → IsLineCall call → IsTrue (is_taken call)
-said_taken call (inl e) = subst (λ (c : Call). IsTrue (is_taken c)) (sym e) refl
-said_taken call (inr close) = subst (λ (c : Call). IsTrue (is_taken c)) (sym close.1) refl
-
-pub taken_at : (lines : List Line) (i : ℕ) (line : Line) → AllByRecursion IsAskable lines → i < length lines → line ≡ get_or lines i line → IsTrue (is_taken line.call)
-taken_at lines i line all lt is = said_taken line.call (line_at IsAskable lines i line all lt is).said
+-- what a line says is one of the calls of lines
+pub said_at : (lines : List Line) (i : ℕ) (line : Line) → AllByRecursion IsAskable lines → i < length lines → line ≡ get_or lines i line → IsLineCall line.call
+said_at lines i line all lt is = (line_at IsAskable lines i line all lt is).said
 
 -- there is an entry for each line
 entries_len : (pid : Pid) (n : ℕ) (lines : List Line) (outcomes : List Outcome) → length outcomes ≡ length lines → length (call_entries pid n lines outcomes) ≡ length lines
@@ -129,9 +122,6 @@ attached_len pid m a = ap (λ (x : Machine). length x.journal) a.machine
 -- the calls leave the machine at rest
 pub called_at : (m m1 : Machine) (pid : Pid) (guest : List ℕ) (lines : List Line) (rows : List ℕ) → AreCalled m pid guest lines rows m1 → IsResting m1 pid (length lines + 1)
 called_at m m1 pid guest lines rows so = rests m1 _ pid _ so.machine
-
-pub rested : (m m1 : Machine) (pid : Pid) (guest : List ℕ) (lines : List Line) (rows : List ℕ) → AreCalled m pid guest lines rows m1 → (number : ℕ) × IsReady m1 number
-rested m m1 pid guest lines rows so = (length lines + 2, record { pid = pid; last = length lines + 1; below = omega arith; at = called_at m m1 pid guest lines rows so })
 
 -- the whole run
 pub run_is : (m m1 m2 : Machine) (pid : Pid) (section : Section) (rows : List ℕ) → IsLegal m2.journal → HasOwnKeys m2.journal → IsAttached pid m → AreCalled m pid section.name section.lines rows m1 → HasEnded m1 pid m2 → ShowsRun section rows
