@@ -10,3 +10,4 @@ pub mod Told
 pub mod Works
 pub mod Plays
 pub mod Asks
+pub mod Replies

@@ -5,9 +5,14 @@ mod blank;
 mod connection;
 mod frames;
 mod gathered;
+mod hub;
 mod kernel;
 mod machine;
 mod requests;
 mod telling;
 mod verdict;
 mod work;
+
+pub use hub::Hub;
+pub use hub_model::{Condition, Event, Finish, OPEN_CALLS, OpenCall, Reply, Verdict};
+pub use sp_frames::Version;

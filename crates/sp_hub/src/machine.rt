@@ -1,4 +1,4 @@
-ghost use Rattle.std.specs.Prelude.{◌≡◌, Some, None, IfOk, OnOk, OnErr, IsSome, IsTrue, false, List};
+ghost use Rattle.std.specs.Prelude.{◌≡◌, ◌≢◌, true, Some, None, IfOk, OnOk, OnErr, IsSome, IsTrue, false, List};
 ghost use Rattle.std.specs.Option.{option_copied};
 ghost use Rattle.std.specs.FinMap as map;
 ghost use Rattle.kern_model.specs.Journal.{IsLegal, next_entry, state_after};
@@ -8,16 +8,15 @@ ghost use Rattle.kern_model.specs.declared.operation.Op.TheVariants as op;
 ghost use Rattle.sp_frames.specs.Grammar.{Fits};
 ghost use Rattle.sp_frames.specs.declared.frame.Frame as frame;
 ghost use Rattle.sp_hub.specs.At.{condition_in};
-ghost use Rattle.hub_model.specs.Ends.{exit_of, close, drain, end_at, lose_at, nothing_read};
+ghost use Rattle.hub_model.specs.Ends.{exit_of, close, drain};
 ghost use Rattle.hub_model.specs.Frames.{answered_kind, last_error};
-ghost use Rattle.hub_model.specs.Machine.{any_speaks, halt, open_new, is_new};
+ghost use Rattle.hub_model.specs.Machine.{Plays, played, any_speaks, open_new, is_new};
 ghost use Rattle.hub_model.specs.Requests as requests;
 ghost use Rattle.hub_model.specs.Sound.{IsSound};
 ghost use Rattle.hub_model.specs.State as state;
 ghost use Rattle.hub_model.specs.State.{fresh_machine, speaks};
 ghost use Rattle.hub_model.specs.Task.{IsLowest, open_calls};
-ghost use Rattle.hub_model.specs.Work.{take_at};
-ghost use Rattle.hub_model.specs.declared.event.Reply.{Reply};
+ghost use Rattle.hub_model.specs.declared.event.Event.TheVariants as event;
 ghost use Rattle.hub_model.specs.declared.event.Reply.TheVariants as reply;
 ghost use Rattle.sp_base.specs.declared.names.Pid.{Pid};
 ghost use Rattle.sp_base.specs.Table.{at};
@@ -108,7 +107,20 @@ impl Core {
     }
 
     /// A connection opens.
-    pub(crate) fn opened(&mut self, no: ConnNo) -> Result<Reply, NoMemory>
+    ///
+    /// NoMemory comes where memory is refused that its reply would take, and then all is as it was.
+    pub(crate) fn opened(&mut self, no: ConnNo) -> Reply
+        requires { self.old.halted ≡ false }
+        ensures plays { Plays self.old (event.Opened no) result self.new }
+    {
+        match self.open_new(no) {
+            Ok(reply) => reply,
+            Err(NoMemory) => Reply::NoMemory,
+        }
+    }
+
+    /// A connection opens, where its number is above every one that was opened. An error leaves all as it was.
+    fn open_new(&mut self, no: ConnNo) -> Result<Reply, NoMemory>
         ensures reply { IfOk result (λ r. r ≡ (open_new self.old no).0) }
         ensures state { OnOk result (self.new ≡ (open_new self.old no).1) }
         ensures err { OnErr result (self.new ≡ self.old) }
@@ -132,9 +144,10 @@ impl Core {
 
     /// The oldest queued frame of a connection is handed out; takes no memory.
     pub(crate) fn take(&mut self, no: ConnNo) -> Reply
+        requires { self.old.halted ≡ false }
+        ensures plays { (result, self.new) ≡ played true self.old (event.Take no) }
         ensures fits { (frame : frame.Frame) → result ≡ reply.Out frame → Fits frame }
-        ensures reply { result ≡ (take_at self.old no (map.get self.old.connections no.0)).0 }
-        ensures state { self.new ≡ (take_at self.old no (map.get self.old.connections no.0)).1 }
+        ensures memory { result ≢ reply.NoMemory }
     {
         let Some(condition) = self.condition(no) else {
             return Reply::Closed;
@@ -199,9 +212,9 @@ impl Core {
     /// The input of a connection ends; takes no memory.
     #[tactic(auto, using(crate::proofs::At::live_at))]
     pub(crate) fn ended(&mut self, no: ConnNo, finish: Finish) -> Reply
-        requires { IsSound self.old }
-        ensures reply { result ≡ (end_at self.old no finish (map.get self.old.connections no.0)).0 }
-        ensures state { self.new ≡ (end_at self.old no finish (map.get self.old.connections no.0)).1 }
+        requires running { self.old.halted ≡ false }
+        requires sound { IsSound self.old }
+        ensures plays { (result, self.new) ≡ played true self.old (event.Ended no finish) }
     {
         let Some(condition) = self.condition(no) else {
             return Reply::Closed;
@@ -218,9 +231,9 @@ impl Core {
     /// The link of a connection is lost; takes no memory.
     #[tactic(auto, using(crate::proofs::At::live_at))]
     pub(crate) fn lost(&mut self, no: ConnNo) -> Reply
-        requires { IsSound self.old }
-        ensures reply { result ≡ (lose_at self.old no (map.get self.old.connections no.0)).0 }
-        ensures state { self.new ≡ (lose_at self.old no (map.get self.old.connections no.0)).1 }
+        requires running { self.old.halted ≡ false }
+        requires sound { IsSound self.old }
+        ensures plays { (result, self.new) ≡ played true self.old (event.Lost no) }
     {
         let Some(condition) = self.condition(no) else {
             return Reply::Closed;
@@ -240,7 +253,8 @@ impl Core {
 
     /// The server is to take nothing more.
     pub(crate) fn halt(&mut self) -> Reply
-        ensures { (result, self.new) ≡ halt self.old }
+        requires { self.old.halted ≡ false }
+        ensures plays { (result, self.new) ≡ played true self.old event.Halt }
     {
         if self.any_speaks() {
             return Reply::NotQuiet;
