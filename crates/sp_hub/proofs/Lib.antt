@@ -5,9 +5,9 @@ pub mod Exits
 pub mod Handshakes
 pub mod Heard
 pub mod Lowest
+pub mod Replies
 pub mod Outs
 pub mod Told
 pub mod Works
 pub mod Plays
 pub mod Asks
-pub mod Replies

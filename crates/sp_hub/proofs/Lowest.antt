@@ -1,6 +1,6 @@
 -- The first key of a map that passes a test is the lowest one.
-use Rattle.std.proofs.Common.{◌≡◌, ◌⊎◌, inl, inr, ℕ, ◌<◌, ◌≤◌, Bool, true, false, cond, List, [], ◌∷◌, Option, Some, None, IsSome, IsTrue, refl, sym, ap, subst, ◌∙◌, arith}
-use Rattle.std.specs.Prelude.{◌&&◌, nat_lt, nat_le, is_some, map, T}
+use Rattle.std.proofs.Common.{◌≡◌, ◌⊎◌, inl, inr, ℕ, ◌<◌, ◌≤◌, Bool, true, false, cond, List, [], ◌∷◌, Option, Some, None, IsSome, refl, sym, ap, subst, ◌∙◌, arith}
+use Rattle.std.specs.Prelude.{◌&&◌, nat_lt, is_some, map, T}
 use Rattle.std.specs.List as list
 use Rattle.std.specs.Ordering.{nat_cmp, eq_by_cmp, is_lt}
 use Rattle.std.specs.FinMap.{FinMap, get, keys, empty, entries, entries_sorted, get-entries, get-empty}
@@ -8,7 +8,6 @@ use Rattle.std.specs.FinMap.Entries.{find, below_all, is_sorted}
 use Rattle.std.proofs.lemmas.Grind.{common_steps}
 use Rattle.std.proofs.lemmas.Bool.Decides.{nat_tests}
 use Rattle.sp_base.specs.declared.names.ReqNo.{ReqNo}
-use Rattle.hub_model.specs.Sound.{is_waiting}
 use Rattle.hub_model.specs.Task.{Waits, IsLowest}
 use Rattle.hub_model.specs.declared.state.OpenCall.{OpenCall}
 use Rattle.sp_hub.specs.Calls.{waits_in}

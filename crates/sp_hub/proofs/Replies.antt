@@ -1,12 +1,12 @@
 -- The answers to a frame.
-use Rattle.std.proofs.Common.{◌≡◌, ◌≢◌, ℕ, inl, inr, Bool, true, false, cond, Option, Some, None, sym, ap, ◌∙◌}
+use Rattle.std.proofs.Common.{◌≢◌, ℕ, inl, inr, Bool, true, false, cond, Option, Some, None, ap}
 use Rattle.std.specs.FinMap.{get}
 use Rattle.sp_base.specs.declared.names.ConnNo.{ConnNo}
 use Rattle.sp_base.specs.declared.names.SpError.{SpError}
 use Rattle.sp_frames.specs.declared.frame.Frame.{Frame}
 use Rattle.kern_model.specs.Journal.{state_after}
 use Rattle.kern_model.specs.declared.journal.Entry.{Entry}
-use Rattle.hub_model.specs.Machine.{Plays, played}
+use Rattle.hub_model.specs.Machine.{Plays}
 use Rattle.hub_model.specs.Requests.{attach, refuse, go_on, frame_by, frame_at}
 use Rattle.hub_model.specs.State.{Connection, Machine, Played}
 use Rattle.hub_model.specs.Verdict.{verdict_of}
