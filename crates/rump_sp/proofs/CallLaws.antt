@@ -1,5 +1,5 @@
 -- The steps of a handshake and of a call, together.
-use Rattle.std.proofs.Common.{◌≡◌, ◌⊎◌, inl, inr, ℕ, List, [], ◌∷◌, ◌++◌, length, Some, sym, ap, subst, ◌∙◌}
+use Rattle.std.proofs.Common.{◌≡◌, ◌⊎◌, inl, inr, ℕ, true, List, [], ◌∷◌, ◌++◌, length, Some, sym, ap, subst, ◌∙◌}
 use Rattle.sp_base.specs.Call.{call_number, call_words}
 use Rattle.sp_base.specs.declared.call.Call.{Call}
 use Rattle.sp_base.specs.declared.names.Answer.{Answer}
@@ -56,12 +56,12 @@ worked m m1 m2 r q n call a said =
 -- the call is done or refused
 pub done_or_refused : (m m1 m2 : Machine) (r q : Reply) (n : ℕ) (call : Call) (a : IsAsked m m1 r n call) → IsPlayed m1 (event.Work guest_connection (record { 0 = n })) q m2
     → (q ≡ reply.Done) ⊎ (q ≡ reply.Refused Memory)
-done_or_refused m m1 m2 r q n call a said = elim (worked m m1 m2 r q n call a said) [ inl done ↦ inl done.0 | inr refused ↦ inr refused ]
+done_or_refused m m1 m2 r q n call a said = elim (worked m m1 m2 r q n call a said) [ inl d ↦ inl d.0 | inr refused ↦ inr refused ]
 
 -- a call that is done is performed, and its response is held
 done : (m m1 m2 : Machine) (r q : Reply) (n : ℕ) (call : Call) (a : IsAsked m m1 r n call) → IsPlayed m1 (event.Work guest_connection (record { 0 = n })) q m2 → q ≡ reply.Done
     → IsPerformed m.journal a.ready.pid n call m2
-done m m1 m2 r q n call a said is = elim (worked m m1 m2 r q n call a said) [ inl done ↦ done.1 | inr refused ↦ (let never : reply.Done ≡ reply.Refused Memory = sym is ∙ refused in absurd cc) ]
+done m m1 m2 r q n call a said is = elim (worked m m1 m2 r q n call a said) [ inl d ↦ d.1 | inr refused ↦ (let never : reply.Done ≡ reply.Refused Memory = sym is ∙ refused in absurd cc) ]
 
 -- there is a frame for the guest then
 pub waits : (m m1 m2 : Machine) (r q : Reply) (n : ℕ) (call : Call) (a : IsAsked m m1 r n call) → IsPlayed m1 (event.Work guest_connection (record { 0 = n })) q m2 → q ≡ reply.Done → HasAnswer m2

@@ -68,8 +68,8 @@ abbrev pub response : ℕ → Outcome → ℕ → Frame
 response n outcome place = record { number = record { 0 = n }; body = body.Answered (answer_at outcome place) }
 
 -- the server has this journal and this connection of its guest
-pub record IsWith (m : Machine) (journal : List Entry) (x : Connection) : Type 0 where
-  pub journal : m.journal ≡ journal
+pub record IsWith (m : Machine) (entries : List Entry) (x : Connection) : Type 0 where
+  pub journal : m.journal ≡ entries
   pub at : HasGuest m x
 
 -- ---- what an event does
@@ -82,12 +82,12 @@ runs memory m e running = ap (λ b. if b then (reply.Closed, m) else played_runn
 changed : (m m' : Machine) (journal : List Entry) (x : Connection) → m.halted ≡ false → m' ≡ with_connection (record m { journal = journal }) guest_connection x → IsWith m' journal x
 changed m m' journal x running is = subst (λ (n : Machine). IsWith n journal x) (sym is) (record { journal = refl; at = record { running = running; connection = get_put m.connections guest_connection.0 x } })
 
--- an answer and the machine after it
-reply_is : (r q : Reply) (m n : Machine) → (r, m) ≡ (q, n) → r ≡ q
-reply_is r q m n e = ap (λ (p : Played). p.0) e
+-- the answers are the same, and the machines
+reply_is : (p q : Played) → p ≡ q → p.0 ≡ q.0
+reply_is p q e = ap (λ (p : Played). p.0) e
 
-machine_is : (r q : Reply) (m n : Machine) → (r, m) ≡ (q, n) → m ≡ n
-machine_is r q m n e = ap (λ (p : Played). p.1) e
+machine_is : (p q : Played) → p ≡ q → p.1 ≡ q.1
+machine_is p q e = ap (λ (p : Played). p.1) e
 
 -- ---- the handshake
 
@@ -97,7 +97,7 @@ pub opened_is : (memory : Bool) (m m' : Machine) (r : Reply) → m ≡ fresh_mac
 opened_is memory m m' r fresh said =
     let start = record (fresh_machine Four) { opened = Some 0 } in
     let e : (r, m') ≡ (reply.Nothing, with_connection start guest_connection fresh_connection) = said ∙ ap (λ (x : Machine). played memory x (event.Opened guest_connection)) fresh in
-    (reply_is _ _ _ _ e, changed start m' [] fresh_connection refl (machine_is _ _ _ _ e))
+    (reply_is _ _ e, changed start m' [] fresh_connection refl (machine_is _ _ e))
 
 -- the handshake makes process 2
 pub attached_is : (memory : Bool) (m m' : Machine) (r : Reply) (name : List ℕ) → IsWith m [] fresh_connection → (r, m') ≡ played memory m (event.Frame guest_connection (guest_frame name) 0)
@@ -107,7 +107,7 @@ attached_is memory m m' r name start said =
     let x = holding (record { 0 = 2 }) 1 empty (hello (record { 0 = 1 }) 2) in
     let comes = said ∙ runs memory m (event.Frame guest_connection f 0) start.at.running ∙ ap (frame_at m guest_connection f) start.at.connection in
     let e : (r, m') ≡ (reply.Done, with_connection (record m { journal = attach_entry (success 2) ∷ [] }) guest_connection x) = rw start.journal at comes in
-    (reply_is _ _ _ _ e, changed m m' _ x start.at.running (machine_is _ _ _ _ e))
+    (reply_is _ _ e, changed m m' _ x start.at.running (machine_is _ _ e))
 
 -- ---- handing out
 
@@ -123,8 +123,8 @@ pub answer_is : (m m' : Machine) (g : Frame) (journal : List Entry) (pid : Pid) 
     → (reply.Out g, m') ≡ played true m (event.Take guest_connection) → (g ≡ f) × IsWith m' journal (resting pid n)
 answer_is m m' g journal pid n calls f held ended said =
     let e = said ∙ take_is m pid n calls f held.at ended in
-    let after = changed m m' m.journal (resting pid n) held.at.running (machine_is _ _ _ _ e) in
-    (out_is g f (reply_is _ _ _ _ e), record { journal = after.journal ∙ held.journal; at = after.at })
+    let after = changed m m' m.journal (resting pid n) held.at.running (machine_is _ _ e) in
+    (out_is g f (reply_is _ _ e), record { journal = after.journal ∙ held.journal; at = after.at })
   where
     out_is : (g f : Frame) → reply.Out g ≡ reply.Out f → g ≡ f
     out_is g f e = cc
@@ -158,7 +158,7 @@ asked_is memory m m' r pid last n call line below at said =
     let e : (r, m') ≡ (reply.Task (record { 0 = n }), with_connection m guest_connection (asking pid n call)) =
     said ∙ runs memory m (event.Frame guest_connection f 0) at.running ∙ ap (frame_at m guest_connection f) at.connection
     ∙ ap (λ (v : Verdict). frame_by v m guest_connection (resting pid last) f) (opens (state_after m.journal) pid last n call line below) in
-    (reply_is _ _ _ _ e, changed m m' m.journal (asking pid n call) at.running (machine_is _ _ _ _ e))
+    (reply_is _ _ e, changed m m' m.journal (asking pid n call) at.running (machine_is _ _ e))
 
 -- what a line's call gives: an outcome that writes nothing
 pub record Gives (s : State) (pid : ℕ) (call : Call) : Type 0 where
@@ -184,7 +184,7 @@ answered_call n call = insert (one_call n (Gathers call [] false)) n Answers
 pub none_open : (n : ℕ) (call : Call) → remove (answered_call n call) n ≡ empty
 none_open n call = same_map nat_cmp_total nat_cmp-IsAntisymmetric _ _ each
   where
-    each : (q : ℕ) → get (remove (answered_call n call) n) q ≡ get empty q
+    each : (q : ℕ) → get (remove (answered_call n call) n) q ≡ None
     each q = elim (same_or_not q n) [
       | inl e ↦ rw e (get_gone (answered_call n call) n)
       | inr ne ↦ get_gone_other (answered_call n call) n q ne ∙ get_put_other (one_call n (Gathers call [] false)) n Answers q ne ∙ get_put_other empty n (Gathers call [] false) q ne
@@ -226,7 +226,7 @@ worked_is true m m' r pid n call line at said =
     let e : (r, m') ≡ (reply.Done, with_connection (record m { journal = journal }) guest_connection (holding pid n (answered_call n call) (response n g.outcome place))) =
     said ∙ work_is true m pid n call line at
     ∙ ap (λ (queue : List Frame). (reply.Done, with_connection (record m { journal = journal }) guest_connection (record (resting pid n) { calls = answered_call n call; queue = queue }))) (told_alone n g.outcome place g.writes) in
-    inl (reply_is _ _ _ _ e, record { outcome = g.outcome; held = changed m m' journal _ at.running (machine_is _ _ _ _ e) })
+    inl (reply_is _ _ e, record { outcome = g.outcome; held = changed m m' journal _ at.running (machine_is _ _ e) })
 worked_is false m m' r pid n call line at said = inr (ap (λ (p : Played). p.0) (said ∙ work_is false m pid n call line at))
 
 -- ---- the end
