@@ -259,37 +259,75 @@ out_of_front input rest front refused m stop is met =
       record { front = front; rest = rest; before = m; last = hands.1; frames = hands.0; answered = is; ends = how.1; place = omega arith; hands = hands.2; whole = refl },
     )
 
+-- something is to be written for every input, where no call is refused for memory
+pub some_out : (input : List ℕ) → IsBytes input → (how : Finish) × (offset : ℕ) × (whole : List ℕ) × IsStdioOut input [] [] how offset whole
+some_out input all =
+    let split = some_split input all in
+    let answers = some_answers split.frames at_start [] in
+    let is : IsAnswered input [] [] (banner ++ answers.0) split.rest answers.1 = record { frames = split.frames; body = answers.0; whole = split.whole; answers = answers.2; begins = refl } in
+    let out = out_of_front input split.rest (banner ++ answers.0) [] answers.1 split.stop is split.met in
+    (out.0, out.1, out.2, out.5)
+
 -- ---- parts
+
+-- the whole frames of the input, of which the first are answered
+record Continues (input text : List ℕ) (refused : List ReqNo) : Type 0 where
+  more : List ℕ
+  rest : List ℕ
+  last : Machine
+  stop : Option FrameFault
+  answered : IsAnswered input [] refused (text ++ more) rest last
+  met : IsStop stop rest
+
+-- where the frames of a front are known, so are those of the input
+whole_split : (input front more rest : List ℕ) (frames : List Frame) → input ≡ front ++ more → IsWhole front frames rest → IsBytes input
+    → (split : Split (rest ++ more)) × IsWhole input (frames ++ split.frames) split.rest
+whole_split input front more rest frames is whole all =
+    let shape : input ≡ flat_map spelling frames ++ (rest ++ more) = is ∙ ap (λ (t : List ℕ). t ++ more) whole.whole ∙ append_assoc (flat_map spelling frames) rest more in
+    let split = some_split (rest ++ more) (bytes-back (flat_map spelling frames) (rest ++ more) (subst IsBytes shape all)) in (
+      split,
+      record {
+        whole = shape ∙ ap (λ (t : List ℕ). flat_map spelling frames ++ t) split.whole.whole ∙ sym (stream-append frames split.frames split.rest);
+        each = each-append frames split.frames whole.each split.whole.each;
+        none = split.whole.none;
+      },
+    )
+
+-- the texts of first frames and of later ones behind the banner
+behind_banner : (text body later : List ℕ) → text ≡ banner ++ body → text ++ later ≡ banner ++ (body ++ later)
+behind_banner text body later begins = ap (λ (t : List ℕ). t ++ later) begins ∙ append_assoc banner body later
+
+-- the frames behind the first ones are answered
+continues : (input text : List ℕ) → IsBytes input → (so : IsBegun input text) → Continues input text so.refused
+continues input text all so =
+    let frames = so.frames ++ so.later in
+    let split = whole_split input so.front so.more so.rest frames so.is so.whole all in
+    let others = so.later ++ split.0.frames in
+    let later = some_answers others so.last [] in
+    let start = server_of at_start so.refused in
+    let answers = answers_then so.frames others start (server_of so.last []) (server_of later.1 []) so.body later.0 so.answers later.2 in
+    record {
+      more = later.0;
+      rest = split.0.rest;
+      last = later.1;
+      stop = split.0.stop;
+      answered = record {
+        frames = frames ++ split.0.frames;
+        body = so.body ++ later.0;
+        whole = split.1;
+        answers = subst (λ (fs : List Frame). Answers start fs [] (so.body ++ later.0) (server_of later.1 [])) (sym (append_assoc so.frames so.later split.0.frames)) answers;
+        begins = behind_banner text so.body later.0 so.begins;
+      };
+      met = split.0.met;
+    }
 
 -- what is written for first frames of the input begins what is to be written for the input
 begun_begins : (input text : List ℕ) → IsBytes input → (so : IsBegun input text)
     → (how : Finish) × (offset : ℕ) × (whole : List ℕ) × (more : List ℕ) × (whole ≡ text ++ more) × IsStdioOut input [] so.refused how offset whole
 begun_begins input text all so =
-    let frames = so.frames ++ so.later in
-    let shape : input ≡ flat_map spelling frames ++ (so.rest ++ so.more) = so.is ∙ ap (λ (t : List ℕ). t ++ so.more) so.whole.whole ∙ append_assoc (flat_map spelling frames) so.rest so.more in
-    let split = some_split (so.rest ++ so.more) (bytes-back (flat_map spelling frames) (so.rest ++ so.more) (subst IsBytes shape all)) in
-    let later = some_answers (so.later ++ split.frames) so.last [] in
-    let answers : Answers (server_of at_start so.refused) (so.frames ++ (so.later ++ split.frames)) [] (so.body ++ later.0) (server_of later.1 []) =
-    answers_then so.frames (so.later ++ split.frames) (server_of at_start so.refused) (server_of so.last []) (server_of later.1 []) so.body later.0 so.answers later.2 in
-    let answered : IsAnswered input [] so.refused (banner ++ (so.body ++ later.0)) split.rest later.1 = record {
-      frames = frames ++ split.frames;
-      body = so.body ++ later.0;
-      whole = record {
-        whole = shape ∙ ap (λ (t : List ℕ). flat_map spelling frames ++ t) split.whole.whole ∙ sym (stream-append frames split.frames split.rest);
-        each = each-append frames split.frames so.whole.each split.whole.each;
-        none = split.whole.none;
-      };
-      answers = subst (λ (fs : List Frame). Answers (server_of at_start so.refused) fs [] (so.body ++ later.0) (server_of later.1 [])) (sym (append_assoc so.frames so.later split.frames)) answers;
-      begins = refl;
-    } in
-    let out = out_of_front input split.rest (banner ++ (so.body ++ later.0)) so.refused later.1 split.stop answered split.met in (
-      out.0,
-      out.1,
-      out.2,
-      later.0 ++ out.3,
-      out.4 ∙ ap (λ (t : List ℕ). t ++ out.3) (sym (append_assoc banner so.body later.0) ∙ ap (λ (t : List ℕ). t ++ later.0) (sym so.begins)) ∙ append_assoc text later.0 out.3,
-      out.5,
-    )
+    let on = continues input text all so in
+    let out = out_of_front input on.rest (text ++ on.more) so.refused on.last on.stop on.answered on.met in
+    (out.0, out.1, out.2, on.more ++ out.3, out.4 ∙ append_assoc text on.more out.3, out.5)
 
 -- a part of what is to be written for the input is first bytes of it, where some calls are refused for memory
 pub part_cut : (input text : List ℕ) → IsBytes input → IsPart input text → (refused : List ReqNo) × IsCutOff input [] refused text
