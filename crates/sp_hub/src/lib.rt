@@ -10,6 +10,8 @@ mod kernel;
 mod machine;
 mod requests;
 mod telling;
+#[cfg(test)]
+mod tests;
 mod verdict;
 mod work;
 
