@@ -1,14 +1,14 @@
 -- The machine with its one guest, event by event.
-use Rattle.std.proofs.Common.{◌≡◌, ◌⊎◌, inl, inr, ℕ, ◌<◌, Bool, true, false, cond, List, [], ◌∷◌, ◌++◌, length, Option, Some, None, refl, sym, ap, subst, ◌∙◌, arith}
+use Rattle.std.proofs.Common.{◌≡◌, ◌⊎◌, inl, inr, ℕ, ◌<◌, Bool, true, false, List, [], ◌∷◌, ◌++◌, length, Option, Some, None, refl, sym, ap, subst, ◌∙◌, arith}
 use Rattle.std.proofs.lemmas.Bool.Decides.{nat_tests}
 use Rattle.std.specs.Cmp.{nat_cmp_total}
-use Rattle.std.specs.FinMap.{FinMap, get, empty, insert, remove, len, get-insert, get-remove, get-empty, len-empty, same_map, nat_cmp-IsAntisymmetric}
-use Rattle.std.specs.Ordering.{nat_cmp, eq_by_cmp}
+use Rattle.std.specs.FinMap.{FinMap, get, empty, insert, remove, len, get-empty, len-empty, same_map, nat_cmp-IsAntisymmetric}
+use Rattle.std.specs.Ordering.{nat_cmp}
 use Rattle.std.specs.Prelude.{nat_le, slice_get, if◌then◌else◌}
 use Rattle.sp_base.specs.Needs.{needs_of}
 use Rattle.sp_base.specs.Table.{at}
 use Rattle.sp_base.specs.declared.call.Call.{Call}
-use Rattle.sp_base.specs.declared.call.Call.TheVariants.{Getpid, Close}
+use Rattle.sp_base.specs.declared.call.Call.TheVariants.{Close}
 use Rattle.sp_base.specs.declared.errno.Errno.TheVariants.{Ebadf}
 use Rattle.sp_base.specs.declared.names.Pid.{Pid}
 use Rattle.sp_base.specs.declared.names.ReqNo.{ReqNo}
@@ -17,10 +17,10 @@ use Rattle.sp_frames.specs.declared.frame.Body.TheVariants as body
 use Rattle.sp_frames.specs.declared.frame.Frame.{Frame}
 use Rattle.sp_frames.specs.declared.version.Version.TheVariants.{Four}
 use Rattle.kern_model.specs.Act.{act}
-use Rattle.kern_model.specs.Journal.{entry_of_step, next_entry, state_after}
+use Rattle.kern_model.specs.Journal.{entry_of_step, state_after}
 use Rattle.kern_model.specs.Outcome.{success, failure}
 use Rattle.kern_model.specs.State.{State, rows_of, close_row}
-use Rattle.kern_model.specs.Step.{Step, or_fail, answered}
+use Rattle.kern_model.specs.Step.{Step}
 use Rattle.kern_model.specs.declared.journal.Entry.{Entry}
 use Rattle.kern_model.specs.declared.node.Row.{Row}
 use Rattle.kern_model.specs.declared.operation.Op.TheVariants.{Sys}
@@ -182,12 +182,13 @@ answered_call n call = insert (one_call n (Gathers call [] false)) n Answers
 
 -- no call is open once that response is handed out
 pub none_open : (n : ℕ) (call : Call) → remove (answered_call n call) n ≡ empty
-none_open n call = same_map nat_cmp_total nat_cmp-IsAntisymmetric _ _ each
+none_open n call = same_map nat_cmp_total nat_cmp-IsAntisymmetric _ _ (λ q. each q ∙ sym (get-empty nat_cmp q))
   where
     each : (q : ℕ) → get (remove (answered_call n call) n) q ≡ None
     each q = elim (same_or_not q n) [
       | inl e ↦ rw e (get_gone (answered_call n call) n)
-      | inr ne ↦ get_gone_other (answered_call n call) n q ne ∙ get_put_other (one_call n (Gathers call [] false)) n Answers q ne ∙ get_put_other empty n (Gathers call [] false) q ne
+      | inr ne ↦ get_gone_other (answered_call n call) n q ne ∙ get_put_other (one_call n (Gathers call [] false)) n Answers q ne
+          ∙ get_put_other empty n (Gathers call [] false) q ne ∙ get-empty nat_cmp q
     ]
 
 -- the call is performed, and its response is queued
