@@ -1,166 +1,137 @@
 -- The machine with its one guest, event by event.
 use Rattle.std.proofs.Common.{◌≡◌, ◌⊎◌, inl, inr, ℕ, ◌<◌, Bool, true, false, List, [], ◌∷◌, ◌++◌, length, Option, Some, None, refl, sym, ap, subst, ◌∙◌, arith}
 use Rattle.std.proofs.lemmas.Bool.Decides.{nat_tests}
-use Rattle.std.specs.Prelude.{nat_le, if◌then◌else◌}
-use Rattle.std.specs.Option.{option_map}
 use Rattle.std.specs.Cmp.{nat_cmp_total}
+use Rattle.std.specs.FinMap.{FinMap, get, empty, insert, remove, len, get-empty, len-empty, same_map, nat_cmp-IsAntisymmetric}
 use Rattle.std.specs.Ordering.{nat_cmp}
-use Rattle.std.specs.FinMap.{FinMap, get, insert, remove, empty, get-empty, len, len-empty, same_map, nat_cmp-IsAntisymmetric}
+use Rattle.std.specs.Prelude.{nat_le, slice_get, if◌then◌else◌}
+use Rattle.sp_base.specs.Needs.{needs_of}
+use Rattle.sp_base.specs.Table.{at}
 use Rattle.sp_base.specs.declared.call.Call.{Call}
+use Rattle.sp_base.specs.declared.call.Call.TheVariants.{Close}
 use Rattle.sp_base.specs.declared.errno.Errno.TheVariants.{Ebadf}
 use Rattle.sp_base.specs.declared.names.Pid.{Pid}
 use Rattle.sp_base.specs.declared.names.ReqNo.{ReqNo}
 use Rattle.sp_base.specs.declared.names.SpError.TheVariants.{Memory}
-use Rattle.sp_base.specs.Table.{at}
 use Rattle.sp_frames.specs.declared.frame.Body.TheVariants as body
 use Rattle.sp_frames.specs.declared.frame.Frame.{Frame}
 use Rattle.sp_frames.specs.declared.version.Version.TheVariants.{Four}
 use Rattle.kern_model.specs.Act.{act}
-use Rattle.kern_model.specs.Journal.{entry_of_step, next_entry, state_after}
-use Rattle.kern_model.specs.declared.journal.Who.TheVariants.{Request}
+use Rattle.kern_model.specs.Journal.{entry_of_step, state_after}
 use Rattle.kern_model.specs.Outcome.{success, failure}
 use Rattle.kern_model.specs.State.{State, rows_of, close_row}
-use Rattle.kern_model.specs.Step.{Step, or_fail, answered}
+use Rattle.kern_model.specs.Step.{Step}
 use Rattle.kern_model.specs.declared.journal.Entry.{Entry}
+use Rattle.kern_model.specs.declared.node.Row.{Row}
 use Rattle.kern_model.specs.declared.operation.Op.TheVariants.{Sys}
 use Rattle.kern_model.specs.declared.outcome.OutPiece.{OutPiece}
 use Rattle.kern_model.specs.declared.outcome.Outcome.{Outcome}
-use Rattle.kern_model.specs.declared.node.Row.{Row}
-use Rattle.guest_script.specs.Script.{IsLineCall}
 use Rattle.hub_model.specs.Ends.{nothing_read, end_at}
-use Rattle.hub_model.specs.Frames.{hello, answer_at, puts_from, told}
-use Rattle.hub_model.specs.Machine.{played}
-use Rattle.hub_model.specs.Requests.{frame_by, frame_at}
-use Rattle.hub_model.specs.State.{Connection, Machine, Played, fresh_connection, fresh_machine, with_connection}
+use Rattle.hub_model.specs.Frames.{answer_at, hello, puts_from, told}
+use Rattle.hub_model.specs.Machine.{played, played_running}
+use Rattle.hub_model.specs.Requests.{frame_at, frame_by}
+use Rattle.hub_model.specs.State.{Connection, Machine, Played, fresh_machine, fresh_connection, with_connection}
 use Rattle.hub_model.specs.Verdict.{verdict_of}
-use Rattle.hub_model.specs.Work.{calls_after, performed, work_number, work_at, take_at}
+use Rattle.hub_model.specs.Work.{calls_after, gather, performed, take_at, work_at, work_number}
+use Rattle.hub_model.specs.declared.event.Event.{Event}
 use Rattle.hub_model.specs.declared.event.Event.TheVariants as event
 use Rattle.hub_model.specs.declared.event.Finish.TheVariants.{Clean}
 use Rattle.hub_model.specs.declared.event.Reply.{Reply}
 use Rattle.hub_model.specs.declared.event.Reply.TheVariants as reply
-use Rattle.hub_model.specs.declared.state.Condition.TheVariants.{Live}
 use Rattle.hub_model.specs.declared.state.OpenCall.{OpenCall}
 use Rattle.hub_model.specs.declared.state.OpenCall.TheVariants.{Gathers, Answers}
 use Rattle.hub_model.specs.declared.verdict.Verdict.{Verdict}
 use Rattle.hub_model.specs.declared.verdict.Verdict.TheVariants as verdict
+use Rattle.guest_script.specs.Script.{IsLineCall}
 use Rattle.tables.proofs.Maps.{get_put, get_put_other, get_gone, get_gone_other, same_or_not}
 use Rattle.rump_sp.specs.Run.{guest_connection, request_key, guest_entry, attach_entry}
-use Rattle.rump_sp.specs.Guest.{request_frame, resting, with_guest, at_rest, IsResting, HasAnswer, HasEnded}
+use Rattle.rump_sp.specs.Guest.{request_frame, resting, HasGuest, IsResting, HasAnswer, HasEnded}
 
--- ---- finite maps
-
--- what was put last stands there, whatever stood there before
-put_twice : {X : Type 0} (m : FinMap nat_cmp X) (k : ℕ) (v w : X) → insert (insert m k v) k w ≡ insert m k w
-put_twice m k v w = same_map nat_cmp_total nat_cmp-IsAntisymmetric (insert (insert m k v) k w) (insert m k w) (λ q. elim (same_or_not q k) [
-  | inl same ↦ subst (λ n. get (insert (insert m k v) k w) n ≡ get (insert m k w) n) (sym same) (get_put (insert m k v) k w ∙ sym (get_put m k w))
-  | inr ne ↦ get_put_other (insert m k v) k w q ne ∙ get_put_other m k v q ne ∙ sym (get_put_other m k w q ne)
-])
-
--- the one that was put is taken away, and nothing is left
-gone_again : {X : Type 0} (k : ℕ) (v : X) → remove (insert (empty {R = nat_cmp}) k v) k ≡ empty
-gone_again {X = X} k v =
-    let m : FinMap nat_cmp X = insert empty k v in
-    same_map nat_cmp_total nat_cmp-IsAntisymmetric (remove m k) empty (λ q. elim (same_or_not q k) [
-      | inl same ↦ subst (λ n. get (remove m k) n ≡ get (empty {X = X} {R = nat_cmp}) n) (sym same) (get_gone m k ∙ sym (get-empty nat_cmp k))
-      | inr ne ↦ get_gone_other m k q ne ∙ get_put_other empty k v q ne
-    ])
-
--- ---- the guest's connection
-
--- the guest's connection is the one that is there
-there : (x : Connection) → get (insert (empty {R = nat_cmp}) guest_connection.0 x) guest_connection.0 ≡ Some x
-there x = get_put empty guest_connection.0 x
-
--- the guest of a machine at rest
-pub guest_at : (m : Machine) (pid : Pid) (last : ℕ) → IsResting m pid last → option_map (λ (x : Connection). x.condition) (get m.connections guest_connection.0) ≡ Some (Live pid)
-guest_at m pid last at = ap (λ (y : Machine). option_map (λ (x : Connection). x.condition) (get y.connections guest_connection.0)) at ∙ ap (option_map (λ (x : Connection). x.condition)) (there (resting pid last))
-
--- another connection of the guest stands in its place
-replaced : (journal : List Entry) (x y : Connection) → with_connection (with_guest journal x) guest_connection y ≡ with_guest journal y
-replaced journal x y = ap (λ (m : FinMap nat_cmp Connection). record { version = Four; journal = journal; connections = m; opened = Some guest_connection.0; halted = false }) (put_twice empty guest_connection.0 x y)
-
--- the guest is connected, and nothing else
-abbrev pub connected : Machine
-connected = with_guest [] fresh_connection
-
--- the server has a frame for its guest
-abbrev pub holding : List Entry → Pid → ℕ → FinMap nat_cmp OpenCall → Frame → Machine
-holding journal pid last calls f = with_guest journal (record (resting pid last) { calls = calls; queue = f ∷ [] })
-
--- the calls of which one is open
-abbrev pub one_call : ℕ → Call → FinMap nat_cmp OpenCall
-one_call n call = insert empty n (Gathers call [] false)
-
--- the calls of which one is answered
-abbrev pub one_answered : ℕ → Call → FinMap nat_cmp OpenCall
-one_answered n call = insert (one_call n call) n Answers
+-- the open calls of the guest while its call is gathered, and while its response is queued
+abbrev pub one_call : ℕ → OpenCall → FinMap nat_cmp OpenCall
+one_call n task = insert empty n task
 
 -- a call of the guest is open
-abbrev pub asking : List Entry → Pid → ℕ → Call → Machine
-asking journal pid n call = with_guest journal (record (resting pid n) { calls = one_call n call })
+abbrev pub asking : Pid → ℕ → Call → Connection
+asking pid n call = record (resting pid n) { calls = one_call n (Gathers call [] false) }
 
--- the response of a call that was performed at a place
-abbrev pub response : ReqNo → Outcome → ℕ → Frame
-response r outcome place = record { number = r; body = body.Answered (answer_at outcome place) }
+-- a frame for the guest is queued
+abbrev pub holding : Pid → ℕ → FinMap nat_cmp OpenCall → Frame → Connection
+holding pid n calls f = record (resting pid n) { calls = calls; queue = f ∷ [] }
 
 -- the request of a new guest
 abbrev pub guest_frame : List ℕ → Frame
 guest_frame name = record { number = record { 0 = 1 }; body = body.Guest name }
 
--- a machine at rest is at rest with its own journal
-pub rests : (m : Machine) (journal : List Entry) (pid : Pid) (last : ℕ) → m ≡ at_rest journal pid last → IsResting m pid last
-rests m journal pid last e = e ∙ ap (λ (j : List Entry). at_rest j pid last) (sym (ap (λ (x : Machine). x.journal) e))
+-- the response to a call
+abbrev pub response : ℕ → Outcome → ℕ → Frame
+response n outcome place = record { number = record { 0 = n }; body = body.Answered (answer_at outcome place) }
 
--- both parts of what is played
-both : (r q : Reply) (m n : Machine) → ◌≡◌ {A = Played} (r, m) (q, n) → (r ≡ q) × (m ≡ n)
-both r q m n e = (ap (λ (p : Played). p.0) e, ap (λ (p : Played). p.1) e)
+-- the server has this journal and this connection of its guest
+pub record IsWith (m : Machine) (entries : List Entry) (x : Connection) : Type 0 where
+  pub journal : m.journal ≡ entries
+  pub at : HasGuest m x
+
+-- ---- what an event does
+
+-- a machine that hasn't halted plays each event
+runs : (memory : Bool) (m : Machine) (e : Event) → m.halted ≡ false → played memory m e ≡ played_running memory m e
+runs memory m e running = ap (λ b. if b then (reply.Closed, m) else played_running memory m e) running
+
+-- the guest's connection is changed, and its journal
+changed : (m m' : Machine) (journal : List Entry) (x : Connection) → m.halted ≡ false → m' ≡ with_connection (record m { journal = journal }) guest_connection x → IsWith m' journal x
+changed m m' journal x running is = subst (λ (n : Machine). IsWith n journal x) (sym is) (record { journal = refl; at = record { running = running; connection = get_put m.connections guest_connection.0 x } })
+
+-- the answers are the same, and the machines
+reply_is : (p q : Played) → p ≡ q → p.0 ≡ q.0
+reply_is p q e = ap (λ (p : Played). p.0) e
+
+machine_is : (p q : Played) → p ≡ q → p.1 ≡ q.1
+machine_is p q e = ap (λ (p : Played). p.1) e
+
+-- ---- the handshake
 
 -- the connection opens
-pub opened_is : (memory : Bool) (m m' : Machine) (r : Reply) → m ≡ fresh_machine Four → (r, m') ≡ played memory m (event.Opened guest_connection) → (r ≡ reply.Nothing) × (m' ≡ connected)
-opened_is memory m m' r fresh said = both r reply.Nothing m' connected (said ∙ ap (λ (x : Machine). played memory x (event.Opened guest_connection)) fresh)
-
--- what a frame of the guest does
-frame_does : (memory : Bool) (m : Machine) (journal : List Entry) (x : Connection) (f : Frame) → m ≡ with_guest journal x
-    → played memory m (event.Frame guest_connection f 0) ≡ frame_by (verdict_of (state_after journal) x f) (with_guest journal x) guest_connection x f
-frame_does memory m journal x f is = ap (λ (y : Machine). played memory y (event.Frame guest_connection f 0)) is ∙ ap (frame_at (with_guest journal x) guest_connection f) (there x)
+pub opened_is : (memory : Bool) (m m' : Machine) (r : Reply) → m ≡ fresh_machine Four → (r, m') ≡ played memory m (event.Opened guest_connection)
+    → (r ≡ reply.Nothing) × IsWith m' [] fresh_connection
+opened_is memory m m' r fresh said =
+    let start = record (fresh_machine Four) { opened = Some 0 } in
+    let e : (r, m') ≡ (reply.Nothing, with_connection start guest_connection fresh_connection) = said ∙ ap (λ (x : Machine). played memory x (event.Opened guest_connection)) fresh in
+    (reply_is _ _ e, changed start m' [] fresh_connection refl (machine_is _ _ e))
 
 -- the handshake makes process 2
-pub attached_is : (memory : Bool) (m m' : Machine) (r : Reply) (name : List ℕ) → m ≡ connected → (r, m') ≡ played memory m (event.Frame guest_connection (guest_frame name) 0)
-    → (r ≡ reply.Done) × (m' ≡ holding (attach_entry (success 2) ∷ []) (record { 0 = 2 }) 1 empty (hello (record { 0 = 1 }) 2))
+pub attached_is : (memory : Bool) (m m' : Machine) (r : Reply) (name : List ℕ) → IsWith m [] fresh_connection → (r, m') ≡ played memory m (event.Frame guest_connection (guest_frame name) 0)
+    → (r ≡ reply.Done) × IsWith m' (attach_entry (success 2) ∷ []) (holding (record { 0 = 2 }) 1 empty (hello (record { 0 = 1 }) 2))
 attached_is memory m m' r name start said =
-    let x = record (resting (record { 0 = 2 }) 1) { queue = hello (record { 0 = 1 }) 2 ∷ [] } in
-    let journal = attach_entry (success 2) ∷ [] in
-    both r reply.Done m' (with_guest journal x)
-    (said ∙ frame_does memory m [] fresh_connection (guest_frame name) start ∙ ap (λ (y : Machine). (reply.Done, y)) (replaced journal fresh_connection x))
+    let f = guest_frame name in
+    let x = holding (record { 0 = 2 }) 1 empty (hello (record { 0 = 1 }) 2) in
+    let comes = said ∙ runs memory m (event.Frame guest_connection f 0) start.at.running ∙ ap (frame_at m guest_connection f) start.at.connection in
+    let e : (r, m') ≡ (reply.Done, with_connection (record m { journal = attach_entry (success 2) ∷ [] }) guest_connection x) = rw start.journal at comes in
+    (reply_is _ _ e, changed m m' _ x start.at.running (machine_is _ _ e))
 
--- the frame that is held is handed out, and with the response of a call the call is open no more
-pub taken_is : (m m' : Machine) (r : Reply) (journal : List Entry) (pid : Pid) (n : ℕ) (calls : FinMap nat_cmp OpenCall) (f : Frame) → m ≡ holding journal pid n calls f → calls_after calls f ≡ empty
-    → (r, m') ≡ played true m (event.Take guest_connection) → (r ≡ reply.Out f) × (m' ≡ at_rest journal pid n)
-taken_is m m' r journal pid n calls f held none said =
-    let x = record (resting pid n) { calls = calls; queue = f ∷ [] } in
-    let left : Connection = record (resting pid n) { calls = calls_after calls f } in
-    let takes = ap (λ (y : Machine). played true y (event.Take guest_connection)) held ∙ ap (take_at (with_guest journal x) guest_connection) (there x) in
-    let ends = ap (λ (y : Machine). (reply.Out f, y)) (replaced journal x left ∙ ap (λ (c : FinMap nat_cmp OpenCall). with_guest journal (record (resting pid n) { calls = c })) none) in
-    both r (reply.Out f) m' (at_rest journal pid n) (said ∙ takes ∙ ends)
+-- ---- handing out
 
--- a response ends its call
-pub call_ends : (n : ℕ) (call : Call) (outcome : Outcome) (place : ℕ) → calls_after (one_answered n call) (response (record { 0 = n }) outcome place) ≡ empty
-call_ends n call outcome place = ap (λ (c : FinMap nat_cmp OpenCall). remove c n) (put_twice empty n (Gathers call [] false) Answers) ∙ gone_again n Answers
+-- the frame that is held is handed out
+take_is : (m : Machine) (pid : Pid) (n : ℕ) (calls : FinMap nat_cmp OpenCall) (f : Frame) → HasGuest m (holding pid n calls f) → calls_after calls f ≡ empty
+    → played true m (event.Take guest_connection) ≡ (reply.Out f, with_connection m guest_connection (resting pid n))
+take_is m pid n calls f held ended =
+    runs true m (event.Take guest_connection) held.running ∙ ap (take_at m guest_connection) held.connection
+    ∙ ap (λ (c : FinMap nat_cmp OpenCall). (reply.Out f, with_connection m guest_connection (record (resting pid n) { calls = c }))) ended
 
 -- the frame that comes is the one that is held
-pub answer_is : (m m' : Machine) (g : Frame) (journal : List Entry) (pid : Pid) (n : ℕ) (calls : FinMap nat_cmp OpenCall) (f : Frame) → m ≡ holding journal pid n calls f → calls_after calls f ≡ empty
-    → (reply.Out g, m') ≡ played true m (event.Take guest_connection) → (g ≡ f) × (m' ≡ at_rest journal pid n)
-answer_is m m' g journal pid n calls f held none said = let t = taken_is m m' (reply.Out g) journal pid n calls f held none said in (out_is g f t.0, t.1)
+pub answer_is : (m m' : Machine) (g : Frame) (journal : List Entry) (pid : Pid) (n : ℕ) (calls : FinMap nat_cmp OpenCall) (f : Frame) → IsWith m journal (holding pid n calls f) → calls_after calls f ≡ empty
+    → (reply.Out g, m') ≡ played true m (event.Take guest_connection) → (g ≡ f) × IsWith m' journal (resting pid n)
+answer_is m m' g journal pid n calls f held ended said =
+    let e = said ∙ take_is m pid n calls f held.at ended in
+    let after = changed m m' m.journal (resting pid n) held.at.running (machine_is _ _ e) in
+    (out_is g f (reply_is _ _ e), record { journal = after.journal ∙ held.journal; at = after.at })
   where
     out_is : (g f : Frame) → reply.Out g ≡ reply.Out f → g ≡ f
     out_is g f e = cc
 
 -- a machine that holds a frame has an answer
-pub has_answer : (m : Machine) (journal : List Entry) (pid : Pid) (n : ℕ) (calls : FinMap nat_cmp OpenCall) (f : Frame) → m ≡ holding journal pid n calls f → HasAnswer m
-has_answer m journal pid n calls f held =
-    let x = record (resting pid n) { calls = calls; queue = f ∷ [] } in
-    let left : Connection = record (resting pid n) { calls = calls_after calls f } in
-    (f, with_connection (with_guest journal x) guest_connection left, ap (λ (y : Machine). played true y (event.Take guest_connection)) held ∙ ap (take_at (with_guest journal x) guest_connection) (there x))
+pub has_answer : (m : Machine) (pid : Pid) (n : ℕ) (calls : FinMap nat_cmp OpenCall) (f : Frame) → HasGuest m (holding pid n calls f) → calls_after calls f ≡ empty → HasAnswer m
+has_answer m pid n calls f held ended = (f, with_connection m guest_connection (resting pid n), take_is m pid n calls f held ended)
 
 -- ---- a call
 
@@ -171,91 +142,98 @@ picked false x y e = refl
 new_number : (last n : ℕ) → last < n → nat_le n last ≡ false
 new_number last n below = grind (arith, nat_tests)
 
--- another call may be open
-few_open : nat_le 64 (len (empty {X = OpenCall} {R = nat_cmp})) ≡ false
-few_open = ap (nat_le 64) (len-empty nat_cmp OpenCall)
+-- no call is open
+has_room : nat_le 64 (len (empty {X = OpenCall} {R = nat_cmp})) ≡ false
+has_room = ap (λ n. nat_le 64 n) (len-empty nat_cmp OpenCall)
 
 -- a request with a new number opens its call
 opens : (s : State) (pid : Pid) (last n : ℕ) (call : Call) → IsLineCall call → last < n → verdict_of s (resting pid last) (request_frame n call) ≡ verdict.Task call
-opens s pid last n call (inl e) below = rw e (picked (nat_le n last) _ _ (new_number last n below) ∙ picked (nat_le 64 (len (empty {X = OpenCall} {R = nat_cmp}))) _ _ few_open)
-opens s pid last n call (inr close) below = rw (close.1) (picked (nat_le n last) _ _ (new_number last n below) ∙ picked (nat_le 64 (len (empty {X = OpenCall} {R = nat_cmp}))) _ _ few_open)
+opens s pid last n call (inl e) below = rw e (picked (nat_le n last) _ _ (new_number last n below) ∙ picked _ _ _ has_room)
+opens s pid last n call (inr e) below = rw e.1 (picked (nat_le n last) _ _ (new_number last n below) ∙ picked _ _ _ has_room)
 
 pub asked_is : (memory : Bool) (m m' : Machine) (r : Reply) (pid : Pid) (last n : ℕ) (call : Call) → IsLineCall call → last < n → IsResting m pid last
-    → (r, m') ≡ played memory m (event.Frame guest_connection (request_frame n call) 0) → (r ≡ reply.Task (record { 0 = n })) × (m' ≡ asking m.journal pid n call)
+    → (r, m') ≡ played memory m (event.Frame guest_connection (request_frame n call) 0) → (r ≡ reply.Task (record { 0 = n })) × IsWith m' m.journal (asking pid n call)
 asked_is memory m m' r pid last n call line below at said =
-    let x = resting pid last in
     let f = request_frame n call in
-    let y : Connection = record (resting pid n) { calls = one_call n call } in
-    let opened = ap (λ (v : Verdict). frame_by v (at_rest m.journal pid last) guest_connection x f) (opens (state_after m.journal) pid last n call line below) in
-    both r (reply.Task (record { 0 = n })) m' (asking m.journal pid n call)
-    (said ∙ frame_does memory m m.journal x f at ∙ opened ∙ ap (λ (k : Machine). (reply.Task (record { 0 = n }), k)) (replaced m.journal x y))
+    let e : (r, m') ≡ (reply.Task (record { 0 = n }), with_connection m guest_connection (asking pid n call)) =
+    said ∙ runs memory m (event.Frame guest_connection f 0) at.running ∙ ap (frame_at m guest_connection f) at.connection
+    ∙ ap (λ (v : Verdict). frame_by v m guest_connection (resting pid last) f) (opens (state_after m.journal) pid last n call line below) in
+    (reply_is _ _ e, changed m m' m.journal (asking pid n call) at.running (machine_is _ _ e))
 
--- a line's call is performed in every state, and writes nothing
-pub record Acts (s : State) (pid : ℕ) (call : Call) : Type 0 where
+-- what a line's call gives: an outcome that writes nothing
+pub record Gives (s : State) (pid : ℕ) (call : Call) : Type 0 where
   pub outcome : Outcome
   pub next : State
   pub acts : act s pid (Sys call) nothing_read ≡ Some (outcome, next)
-  pub quiet : outcome.outs ≡ []
+  pub writes : outcome.outs ≡ []
 
-closes : (s : State) (pid fd : ℕ) (row : Option Row) → (outcome : Outcome) × (s' : State) × (or_fail row Ebadf s (λ row. answered 0 (close_row s pid fd)) ≡ Some (outcome, s')) × (outcome.outs ≡ [])
-closes s pid fd None = (failure Ebadf, s, refl, refl)
-closes s pid fd (Some row) = (success 0, close_row s pid fd, refl, refl)
+-- a line's call is performed in every state
+gives : (s : State) (pid : ℕ) (call : Call) → IsLineCall call → Gives s pid call
+gives s pid call (inl e) = rw e (record { outcome = success pid; next = s; acts = refl; writes = refl })
+gives s pid call (inr e) = rw e.1 (closes (at (rows_of s pid) e.0) refl)
+  where
+    closes : (row : Option Row) → at (rows_of s pid) e.0 ≡ row → Gives s pid (Close e.0)
+    closes None none = record { outcome = failure Ebadf; next = s; acts = rw none refl; writes = refl }
+    closes (Some row) some = record { outcome = success 0; next = close_row s pid e.0; acts = rw some refl; writes = refl }
 
-pub acts : (s : State) (pid : ℕ) (call : Call) → IsLineCall call → Acts s pid call
-acts s pid call (inl e) = subst (λ (c : Call). Acts s pid c) (sym e) (record { outcome = success pid; next = s; acts = refl; quiet = refl })
-acts s pid call (inr close) =
-    let does = closes s pid close.0 (at (rows_of s pid) close.0) in
-    subst (λ (c : Call). Acts s pid c) (sym close.1) (record { outcome = does.0; next = does.1; acts = does.2; quiet = does.3 })
+-- the open calls while the response of the only one is queued
+abbrev pub answered_call : ℕ → Call → FinMap nat_cmp OpenCall
+answered_call n call = insert (one_call n (Gathers call [] false)) n Answers
 
--- a line's call reads nothing, and is performed at once
-gathered : (memory : Bool) (k : Machine) (pid : Pid) (n : ℕ) (calls : FinMap nat_cmp OpenCall) (r : ReqNo) (call : Call) → IsLineCall call
-    → work_number memory k guest_connection (record (resting pid n) { calls = calls }) r (Some (Gathers call [] false))
-    ≡ performed memory k guest_connection (record (resting pid n) { calls = calls }) r (next_entry k.journal pid (Request guest_connection r) (Sys call) nothing_read)
-gathered memory k pid n calls r call (inl e) =
-    subst (λ (c : Call). work_number memory k guest_connection (record (resting pid n) { calls = calls }) r (Some (Gathers c [] false))
-    ≡ performed memory k guest_connection (record (resting pid n) { calls = calls }) r (next_entry k.journal pid (Request guest_connection r) (Sys c) nothing_read)) (sym e) refl
-gathered memory k pid n calls r call (inr close) =
-    subst (λ (c : Call). work_number memory k guest_connection (record (resting pid n) { calls = calls }) r (Some (Gathers c [] false))
-    ≡ performed memory k guest_connection (record (resting pid n) { calls = calls }) r (next_entry k.journal pid (Request guest_connection r) (Sys c) nothing_read)) (sym close.1) refl
+-- no call is open once that response is handed out
+pub none_open : (n : ℕ) (call : Call) → remove (answered_call n call) n ≡ empty
+none_open n call = same_map nat_cmp_total nat_cmp-IsAntisymmetric _ _ (λ q. each q ∙ sym (get-empty nat_cmp q))
+  where
+    each : (q : ℕ) → get (remove (answered_call n call) n) q ≡ None
+    each q = elim (same_or_not q n) [
+      | inl e ↦ rw e (get_gone (answered_call n call) n)
+      | inr ne ↦ get_gone_other (answered_call n call) n q ne ∙ get_put_other (one_call n (Gathers call [] false)) n Answers q ne
+          ∙ get_put_other empty n (Gathers call [] false) q ne ∙ get-empty nat_cmp q
+    ]
 
--- what a Work of the open call does: it is performed, or there is no memory for it
-work_does : (memory : Bool) (m : Machine) (journal : List Entry) (pid : Pid) (n : ℕ) (call : Call) (line : IsLineCall call) → m ≡ asking journal pid n call
-    → played memory m (event.Work guest_connection (record { 0 = n }))
-    ≡ performed memory (asking journal pid n call) guest_connection (record (resting pid n) { calls = one_call n call }) (record { 0 = n })
-    (Some (guest_entry pid (request_key n) (Sys call) (acts (state_after journal) pid.0 call line).outcome))
-work_does memory m journal pid n call line is =
-    let k = asking journal pid n call in
-    let x : Connection = record (resting pid n) { calls = one_call n call } in
-    let r : ReqNo = record { 0 = n } in
-    let a = acts (state_after journal) pid.0 call line in
-    let found = ap (work_at memory k guest_connection r) (there x) ∙ ap (work_number memory k guest_connection x r) (get_put empty n (Gathers call [] false)) in
-    let performs = ap (λ (step : Step). performed memory k guest_connection x r (entry_of_step pid (request_key n) (Sys call) nothing_read step)) a.acts in
-    ap (λ (y : Machine). played memory y (event.Work guest_connection r)) is ∙ found ∙ gathered memory k pid n (one_call n call) r call line ∙ performs
-
--- the call is performed, and the server holds its response
-pub record IsWorked (m' : Machine) (r : Reply) (journal : List Entry) (pid : Pid) (n : ℕ) (call : Call) : Type 0 where
+-- the call is performed, and its response is queued
+pub record IsPerformed (journal : List Entry) (pid : Pid) (n : ℕ) (call : Call) (m : Machine) : Type 0 where
   pub outcome : Outcome
-  pub done : r ≡ reply.Done
-  pub machine : m' ≡ holding (journal ++ guest_entry pid (request_key n) (Sys call) outcome ∷ []) pid n (one_answered n call) (response (record { 0 = n }) outcome (length journal))
+  pub held : IsWith m (journal ++ guest_entry pid (request_key n) (Sys call) outcome ∷ []) (holding pid n (answered_call n call) (response n outcome (length journal)))
 
--- the call is performed, or there is no memory for it
-pub worked_is : (memory : Bool) (m m' : Machine) (r : Reply) (journal : List Entry) (pid : Pid) (n : ℕ) (call : Call) → IsLineCall call → m ≡ asking journal pid n call
-    → (r, m') ≡ played memory m (event.Work guest_connection (record { 0 = n })) → (r ≡ reply.Refused Memory) ⊎ IsWorked m' r journal pid n call
-worked_is false m m' r journal pid n call line is said = inl (ap (λ (p : Played). p.0) (said ∙ work_does false m journal pid n call line is))
-worked_is true m m' r journal pid n call line is said =
-    let a = acts (state_after journal) pid.0 call line in
-    let no : ReqNo = record { 0 = n } in
-    let grown = journal ++ guest_entry pid (request_key n) (Sys call) a.outcome ∷ [] in
-    let x : Connection = record (resting pid n) { calls = one_call n call } in
-    let y : Connection = record (resting pid n) { calls = one_answered n call; queue = told no a.outcome (length journal) } in
-    let quiet : told no a.outcome (length journal) ≡ response no a.outcome (length journal) ∷ [] =
-    ap (λ (outs : List OutPiece). puts_from no 0 outs ++ response no a.outcome (length journal) ∷ []) a.quiet in
-    let ends = ap (λ (k : Machine). (reply.Done, k)) (replaced grown x y ∙ ap (λ (q : List Frame). with_guest grown (record (resting pid n) { calls = one_answered n call; queue = q })) quiet) in
-    let e = both r reply.Done m' (holding grown pid n (one_answered n call) (response no a.outcome (length journal))) (said ∙ work_does true m journal pid n call line is ∙ ends) in
-    inr (record { outcome = a.outcome; done = e.0; machine = e.1 })
+-- a line's call reads nothing
+reads_nothing : (call : Call) → IsLineCall call → slice_get (needs_of call) 0 ≡ None
+reads_nothing call (inl e) = rw e refl
+reads_nothing call (inr e) = rw e.1 refl
+
+-- an outcome that writes nothing is told by its response alone
+told_alone : (n : ℕ) (outcome : Outcome) (place : ℕ) → outcome.outs ≡ [] → told (record { 0 = n }) outcome place ≡ response n outcome place ∷ []
+told_alone n outcome place none = ap (λ (outs : List OutPiece). puts_from (record { 0 = n }) 0 outs ++ response n outcome place ∷ []) none
+
+-- the call is worked: it is performed with memory, and refused without
+work_is : (memory : Bool) (m : Machine) (pid : Pid) (n : ℕ) (call : Call) (line : IsLineCall call) → HasGuest m (asking pid n call)
+    → played memory m (event.Work guest_connection (record { 0 = n }))
+    ≡ performed memory m guest_connection (asking pid n call) (record { 0 = n }) (Some (guest_entry pid (request_key n) (Sys call) (gives (state_after m.journal) pid.0 call line).outcome))
+work_is memory m pid n call line at =
+    let c = guest_connection in
+    let r : ReqNo = record { 0 = n } in
+    let x = asking pid n call in
+    runs memory m (event.Work c r) at.running ∙ ap (work_at memory m c r) at.connection
+    ∙ ap (work_number memory m c x r) (get_put empty n (Gathers call [] false))
+    ∙ ap (gather memory m c x r call []) (reads_nothing call line)
+    ∙ ap (λ (step : Step). performed memory m c x r (entry_of_step pid (request_key n) (Sys call) nothing_read step)) (gives (state_after m.journal) pid.0 call line).acts
+
+pub worked_is : (memory : Bool) (m m' : Machine) (r : Reply) (pid : Pid) (n : ℕ) (call : Call) → IsLineCall call → HasGuest m (asking pid n call)
+    → (r, m') ≡ played memory m (event.Work guest_connection (record { 0 = n })) → ((r ≡ reply.Done) × IsPerformed m.journal pid n call m') ⊎ (r ≡ reply.Refused Memory)
+worked_is true m m' r pid n call line at said =
+    let g = gives (state_after m.journal) pid.0 call line in
+    let place = length m.journal in
+    let journal = m.journal ++ guest_entry pid (request_key n) (Sys call) g.outcome ∷ [] in
+    let e : (r, m') ≡ (reply.Done, with_connection (record m { journal = journal }) guest_connection (holding pid n (answered_call n call) (response n g.outcome place))) =
+    said ∙ work_is true m pid n call line at
+    ∙ ap (λ (queue : List Frame). (reply.Done, with_connection (record m { journal = journal }) guest_connection (record (resting pid n) { calls = answered_call n call; queue = queue }))) (told_alone n g.outcome place g.writes) in
+    inl (reply_is _ _ e, record { outcome = g.outcome; held = changed m m' journal _ at.running (machine_is _ _ e) })
+worked_is false m m' r pid n call line at said = inr (ap (λ (p : Played). p.0) (said ∙ work_is false m pid n call line at))
+
+-- ---- the end
 
 -- the connection ends, and the process exits
-pub ended_is : (m m' : Machine) (r : Reply) (pid : Pid) (last : ℕ) → IsResting m pid last → (r, m') ≡ played true m (event.Ended guest_connection Clean) → HasEnded m pid m'
-ended_is m m' r pid last at said =
-    let e = said ∙ ap (λ (x : Machine). played true x (event.Ended guest_connection Clean)) at ∙ ap (end_at (at_rest m.journal pid last) guest_connection Clean) (there (resting pid last)) in
-    (success 0, ap (λ (p : Played). p.1.journal) e)
+pub ended_is : (memory : Bool) (m m' : Machine) (r : Reply) (pid : Pid) (last : ℕ) → IsResting m pid last → (r, m') ≡ played memory m (event.Ended guest_connection Clean) → (r ≡ reply.Nothing) × HasEnded m pid m'
+ended_is memory m m' r pid last at said =
+    let e = said ∙ runs memory m (event.Ended guest_connection Clean) at.running ∙ ap (end_at m guest_connection Clean) at.connection in
+    (ap (λ (p : Played). p.0) e, (success 0, ap (λ (p : Played). p.1.journal) e))

@@ -1,17 +1,16 @@
 //! A server and its one guest, in one process.
-ghost use Rattle.std.specs.Prelude.{◌≡◌, ℕ, true, IfOk, IsTrue};
-ghost use Rattle.sp_base.specs.Call.{IsProper};
+ghost use Rattle.std.specs.Prelude.{◌≡◌, ◌⊎◌, ℕ, true, IfOk, OnOk, OnErr, IsTrue};
 ghost use Rattle.sp_base.specs.declared.names.Pid.{Pid};
 ghost use Rattle.sp_frames.specs.Grammar.{Fits};
-ghost use Rattle.sp_frames.specs.declared.version.Version.TheVariants.{Four};
+ghost use Rattle.sp_frames.specs.declared.version.Version.{Version};
 ghost use Rattle.hub_model.specs.Machine.{played};
 ghost use Rattle.hub_model.specs.State.{fresh_machine};
 ghost use Rattle.guest_script.specs.Script.{is_name, IsLineCall};
 ghost use Rattle.rump_sp.specs.Run.{guest_connection};
-ghost use Rattle.rump_sp.specs.Guest.{HasPlayed, HasAnswer, IsResting, IsReady, IsAttached, IsCalled, HasEnded};
+ghost use Rattle.rump_sp.specs.Guest.{IsPlayed, HasAnswer, IsResting, IsReady, IsAttached, IsCalled, HasEnded};
 
 use crate::wire::Wire;
-use sp_base::{Answer, Call, ConnNo, NoMemory, Octets, Pid, ReqNo};
+use sp_base::{Answer, Call, ConnNo, NoMemory, Octets, Pid, ReqNo, SpError};
 use sp_frames::{Body, Frame};
 use sp_hub::{Event, Finish, Hub, Reply};
 use std::alloc::Global;
@@ -29,15 +28,28 @@ pub struct Runner {
 
 /// An event of the server; its reply is any but want of memory.
 fn play(hub: &mut Hub, event: Event) -> Result<Reply, NoMemory>
-    ensures { IfOk result (λ reply. HasPlayed hub.old event reply hub.new) }
+    ensures { IfOk result (λ reply. IsPlayed hub.old event reply hub.new) }
 {
     hub.play(event).or_no_memory()
+}
+
+/// Whether a call that was worked is done; one that was refused is want of memory.
+fn done(reply: Reply) -> Result<(), NoMemory>
+    requires { (reply ≡ Reply.Done) ⊎ (reply ≡ Reply.Refused SpError.Memory) }
+    ensures ok { OnOk result (reply ≡ Reply.Done) }
+    ensures err { OnErr result (reply ≡ Reply.Refused SpError.Memory) }
+{
+    match reply {
+        Reply::Done => Ok(()),
+        Reply::Refused(SpError::Memory) => Err(NoMemory),
+        _ => unreachable!(),
+    }
 }
 
 impl Runner {
     /// A server to which nothing happened, with a guest that isn't connected yet.
     pub fn fresh(alloc: Global) -> Result<Runner, NoMemory>
-        ensures { IfOk result (λ runner. runner.hub ≡ fresh_machine Four) }
+        ensures { IfOk result (λ runner. runner.hub ≡ fresh_machine Version.Four) }
     {
         Ok(Runner {
             hub: Hub::fresh(alloc)?,
@@ -49,8 +61,8 @@ impl Runner {
     /// Sends a frame of the guest to the server.
     fn ask(&mut self, frame: &Frame) -> Result<Reply, NoMemory>
         requires { Fits frame.now }
-        ensures { IfOk result (λ reply. HasPlayed self.old.hub
-            (Event.Frame guest_connection frame.now 0) reply self.new.hub) }
+        ensures { IfOk result (λ reply.
+            IsPlayed self.old.hub (Event.Frame guest_connection frame.now 0) reply self.new.hub) }
     {
         let frame = self.requests.send(frame)?;
         play(&mut self.hub, Event::Frame(GUEST, frame, 0))
@@ -71,7 +83,7 @@ impl Runner {
     /// Connects the guest and makes its process.
     pub fn attach(&mut self, name: Octets) -> Result<Pid, NoMemory>
         requires named { IsTrue (is_name name) }
-        requires fresh { self.old.hub ≡ fresh_machine Four }
+        requires fresh { self.old.hub ≡ fresh_machine Version.Four }
         ensures { IfOk result (λ pid. IsAttached pid self.new.hub) }
     {
         let Reply::Nothing = play(&mut self.hub, Event::Opened(GUEST))? else {
@@ -91,10 +103,8 @@ impl Runner {
         }
     }
 
-    /// Performs a call of the guest as the request of that number.
-    /// The only error is want of memory; a call that the server refused for memory is one too.
+    /// Performs a line's call of the guest as the request of that number.
     pub fn call(&mut self, number: u64, call: &Call) -> Result<Answer, NoMemory>
-        requires proper { IsProper call.now }
         requires line { IsLineCall call.now }
         requires ready { IsReady self.old.hub number }
         ensures { IfOk result (λ answer. (pid : Pid) (last : ℕ) → IsResting self.old.hub pid last
@@ -112,10 +122,7 @@ impl Runner {
         let Reply::Task(_) = self.ask(&frame)? else {
             unreachable!();
         };
-        // where it isn't done, the server refused it for memory
-        let Reply::Done = play(&mut self.hub, Event::Work(GUEST, ReqNo(number)))? else {
-            return Err(NoMemory);
-        };
+        done(play(&mut self.hub, Event::Work(GUEST, ReqNo(number)))?)?;
         match self.collect()?.body {
             Body::Answered(answer) => Ok(answer),
             _ => unreachable!(),
@@ -123,10 +130,14 @@ impl Runner {
     }
 
     /// Ends the guest's connection, and with it its process.
-    pub fn end(&mut self)
-        ensures { (pid : Pid) (last : ℕ) → IsResting self.old.hub pid last
-            → HasEnded self.old.hub pid self.new.hub }
+    pub fn end(&mut self) -> Result<(), NoMemory>
+        requires { (number : ℕ) × IsReady self.old.hub number }
+        ensures { OnOk result ((pid : Pid) (last : ℕ) → IsResting self.old.hub pid last
+            → HasEnded self.old.hub pid self.new.hub) }
     {
-        let _ = self.hub.ended(GUEST, Finish::Clean);
+        let Reply::Nothing = play(&mut self.hub, Event::Ended(GUEST, Finish::Clean))? else {
+            unreachable!();
+        };
+        Ok(())
     }
 }

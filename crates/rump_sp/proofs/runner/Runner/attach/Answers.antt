@@ -20,7 +20,7 @@ pub collect-requires : goal.collect-requires
 collect-requires c =
     let start = opened_is c.in_ok-play.ensures.0 _ _ _ c.requires.fresh c.in_ok-play.ensures.1 in
     let done = attached_is c.in_ok-ask.ensures.0 _ _ _ _ start.1 c.in_ok-ask.ensures.1 in
-    has_answer _ _ _ _ _ _ done.1
+    has_answer _ _ _ _ _ done.1.at refl
 
 pub unreachable-requires-in_default-body : goal.unreachable-requires-in_default-body
 unreachable-requires-in_default-body c =
