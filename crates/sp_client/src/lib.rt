@@ -1,0 +1,11 @@
+//! The client library's core: a machine that sends the system calls of a guest to a server, and answers
+//! what the server asks meanwhile.
+#![tactic(auto)]
+
+mod client;
+mod copies;
+mod fitness;
+mod request;
+mod serving;
+
+pub use client::ClientCore;
