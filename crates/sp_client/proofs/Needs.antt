@@ -1,8 +1,8 @@
 -- What a call reads: two needs at the most, each small enough for a frame.
 use Rattle.std.proofs.Common.{◌≡◌, ℕ, zero, suc, ◌<◌, ◌≤◌, ◌*◌, ◌++◌, Bool, cond, Option, Some, None, refl, sym, subst, true, false, nat_le, min, arith}
-use Rattle.std.specs.Prelude.{◌==◌, ◌&&◌, not, slice_get}
+use Rattle.std.specs.Prelude.{◌==◌, slice_get}
 use Rattle.std.specs.Option.{option_to_list}
-use Rattle.std.proofs.lemmas.Grind.{common_steps}
+use Rattle.std.proofs.lemmas.Bool.{and_parts, eqb-true, not-true}
 use Rattle.std.proofs.lemmas.Bool.Decides.{nat_tests}
 use Rattle.sp_base.specs.Needs.{range_of, transfer_range, address_in, poll_range, bytes_need, asks_of, needs_of}
 use Rattle.sp_base.specs.declared.call.Call.{Call}
@@ -95,35 +95,20 @@ one_of (Some a) (Some b) (suc (suc i)) n e hp hq = absurd cc
 need_small : (call : Call) (index : ℕ) (n : Need) → slice_get (needs_of call) index ≡ Some n → (index < 2) × IsSmall n
 need_small call index n e = one_of (asks_of call).0 (asks_of call).1 index n e (all_small call).0 (all_small call).1
 
-and_first : (a b : Bool) → (a && b) ≡ true → a ≡ true
-and_first true b e = refl
-and_first false b e = absurd cc
-
-and_second : (a b : Bool) → (a && b) ≡ true → b ≡ true
-and_second true b e = e
-and_second false b e = absurd cc
-
-not_true : (a : Bool) → not a ≡ true → a ≡ false
-not_true true e = absurd cc
-not_true false e = refl
-
-same_number : (m n : ℕ) → (m == n) ≡ true → m ≡ n
-same_number m n e = grind (arith, nat_tests, common_steps)
-
 -- an ask for a need that a frame can carry asks for as much
 bytes_small : (need : Option Need) (index addr len : ℕ) → ((n : Need) → need ≡ Some n → (index < 2) × IsSmall n) → is_ask_for need (body.AskBytes index addr len) ≡ true → IsAskOf index (body.AskBytes index addr len)
 bytes_small None index addr len small e = absurd cc
 bytes_small (Some (Text a limit)) index addr len small e = absurd cc
 bytes_small (Some (Bytes a l)) index addr len small e =
     let here = small (Bytes a l) refl in
-    (refl, here.0, subst (λ (n : ℕ). n ≤ 131044) (sym (same_number len l (and_second (addr == a) (len == l) e))) here.1)
+    (refl, here.0, subst (λ (n : ℕ). n ≤ 131044) (sym (eqb-true len l (and_parts (addr == a) (len == l) e).1)) here.1)
 
 text_small : (need : Option Need) (index addr most : ℕ) → ((n : Need) → need ≡ Some n → (index < 2) × IsSmall n) → is_ask_for need (body.AskText index addr most) ≡ true → IsAskOf index (body.AskText index addr most)
 text_small None index addr most small e = absurd cc
 text_small (Some (Bytes a l)) index addr most small e = absurd cc
 text_small (Some (Text a limit)) index addr most small e =
     let here = small (Text a limit) refl in
-    (refl, here.0, subst (λ (n : ℕ). n ≤ 1024) (sym (same_number most limit (and_second (addr == a) (most == limit) e))) here.1)
+    (refl, here.0, subst (λ (n : ℕ). n ≤ 1024) (sym (eqb-true most limit (and_parts (addr == a) (most == limit) e).1)) here.1)
 
 -- an ask that may come is one for a need of the call, which wasn't asked for before
 pub record IsNewAsk (x : OpenRequest) (index : ℕ) (ask : Body) : Type 0 where
@@ -133,24 +118,24 @@ pub record IsNewAsk (x : OpenRequest) (index : ℕ) (ask : Body) : Type 0 where
 bytes_by : (x : OpenRequest) (what : Request) (index addr len : ℕ) → x.request ≡ what → fits_request what x.asked (body.AskBytes index addr len) ≡ true → IsNewAsk x index (body.AskBytes index addr len)
 bytes_by x request.Attach index addr len is e = absurd cc
 bytes_by x (request.Call call) index addr len is e = record {
-  asks = bytes_small (slice_get (needs_of call) index) index addr len (need_small call index) (and_first _ _ e);
-  new = not_true (was_asked x.asked index) (and_second _ _ e);
+  asks = bytes_small (slice_get (needs_of call) index) index addr len (need_small call index) (and_parts _ _ e).0;
+  new = not-true (was_asked x.asked index) (and_parts _ _ e).1;
 }
 
 text_by : (x : OpenRequest) (what : Request) (index addr most : ℕ) → x.request ≡ what → fits_request what x.asked (body.AskText index addr most) ≡ true → IsNewAsk x index (body.AskText index addr most)
 text_by x request.Attach index addr most is e = absurd cc
 text_by x (request.Call call) index addr most is e = record {
-  asks = text_small (slice_get (needs_of call) index) index addr most (need_small call index) (and_first _ _ e);
-  new = not_true (was_asked x.asked index) (and_second _ _ e);
+  asks = text_small (slice_get (needs_of call) index) index addr most (need_small call index) (and_parts _ _ e).0;
+  new = not-true (was_asked x.asked index) (and_parts _ _ e).1;
 }
 
 -- the bytes that the server may ask for
 pub new_bytes : (x : OpenRequest) (index addr len : ℕ) → may_come (Some x) (body.AskBytes index addr len) ≡ true → IsNewAsk x index (body.AskBytes index addr len)
-new_bytes x index addr len e = bytes_by x x.request index addr len refl (and_second _ _ e)
+new_bytes x index addr len e = bytes_by x x.request index addr len refl (and_parts _ _ e).1
 
 -- the text that the server may ask for
 pub new_text : (x : OpenRequest) (index addr most : ℕ) → may_come (Some x) (body.AskText index addr most) ≡ true → IsNewAsk x index (body.AskText index addr most)
-new_text x index addr most e = text_by x x.request index addr most refl (and_second _ _ e)
+new_text x index addr most e = text_by x x.request index addr most refl (and_parts _ _ e).1
 
 -- what an ask does that may come
 pub bytes_go_on : (k : Client) (r : ReqNo) (x : OpenRequest) (index addr len : ℕ) (ask : Body) → ask ≡ body.AskBytes index addr len → goes_on k r x ask ≡ answer_ask k r x index ask

@@ -109,8 +109,8 @@ fn collected(response: Response, delivery: Delivery) -> Reply
 }
 
 impl ClientCore {
-    /// A client that begins. Its handshake, which is request 1, is queued. The only error is want of
-    /// memory.
+    /// A client that begins. Its handshake, which is request 1, is queued. The only error is want
+    /// of memory.
     #[tactic(auto, using(crate::proofs::Fit::hello_fits))]
     pub fn fresh(alloc: Global, hello: Hello) -> Result<ClientCore, NoMemory>
         requires { HasName hello }
@@ -156,15 +156,16 @@ impl ClientCore {
         }
     }
 
-    /// Whether a call that starts now would be answered Busy, unless the talk with the server is over
-    /// or its handshake isn't answered; takes no memory.
+    /// Whether a call that starts now would be answered Busy, unless the talk with the server is
+    /// over or its handshake isn't answered; takes no memory.
     pub fn is_busy(&self) -> bool
         ensures { result ≡ is_busy self.now }
     {
         self.requests.len() as u64 >= OPEN_REQUESTS || self.last == u64::MAX
     }
 
-    /// An event happens. Where memory is refused nothing changes, and memory that was lent comes back.
+    /// An event happens. Where memory is refused nothing changes, and memory that was lent comes
+    /// back.
     pub fn play(&mut self, event: Event) -> Reply
         ensures plays { Plays self.old event result self.new }
         ensures fits { (frame : Frame) → result ≡ reply.Out frame → Fits frame }
@@ -180,9 +181,9 @@ impl ClientCore {
 
     /// A caller asks for a system call, and lends its memory for it.
     ///
-    /// Lost or Broken come once the talk with the server is over, by what ended it first; else NotYet
-    /// before the handshake is answered with a process; else Busy where 64 requests are open, or no
-    /// number is left. Otherwise the call is queued, and Started has its number.
+    /// Lost or Broken come once the talk with the server is over, by what ended it first; else
+    /// NotYet before the handshake is answered with a process; else Busy where 64 requests are
+    /// open, or no number is left. Otherwise the call is queued, and Started has its number.
     pub fn start(&mut self, call: Call, mem: Mem) -> Reply
         ensures { (caller : Caller) → Plays self.old (event.Start caller call mem) result self.new }
     {
@@ -201,13 +202,14 @@ impl ClientCore {
         }
     }
 
-    /// Opens a request under the next number. Where memory is refused nothing changes, and the memory
-    /// that was lent comes back.
+    /// Opens a request under the next number. Where memory is refused nothing changes, and the
+    /// memory that was lent comes back.
     #[tactic(auto, using(crate::proofs::Fit::queue_fits))]
     fn open(&mut self, call: Call, mem: Mem) -> Result<ReqNo, Mem>
         requires { self.old.last ≢ highest_number }
         ensures ok { OnOk result (self.new ≡ (start_now self.old call mem).1) }
-        ensures number { IfOk result (λ number. reply.Started number ≡ (start_now self.old call mem).0) }
+        ensures number { IfOk result (λ number.
+            reply.Started number ≡ (start_now self.old call mem).0) }
         ensures err { OnErr result (self.new ≡ self.old) }
         ensures mem { IfErr result (λ back. back ≡ mem) }
     {
@@ -268,8 +270,8 @@ impl ClientCore {
         }
     }
 
-    /// The link is gone: unless the talk with the server was over before, unanswered requests are lost
-    /// from now on; takes no memory.
+    /// The link is gone: unless the talk with the server was over before, unanswered requests are
+    /// lost from now on; takes no memory.
     pub fn gone(&mut self) -> Reply
         ensures { (result, self.new) ≡ played self.old event.Gone }
     {

@@ -45,7 +45,8 @@ fn copy_of_bytes(
 ) -> Result<Body, NoMemory>
     requires index { index < 2 }
     requires len { len ≤ 131044 }
-    ensures value { IfOk result (λ copy. copy ≡ got_bytes index (read_of mem.now (need.Bytes addr len))) }
+    ensures value { IfOk result (λ copy.
+        copy ≡ got_bytes index (read_of mem.now (need.Bytes addr len))) }
     ensures fits { IfOk result (λ copy. BodyFits copy) }
 {
     match mem.read(alloc, &Need::Bytes(addr, len)) {
@@ -73,7 +74,8 @@ fn copy_of_text(
 ) -> Result<Body, NoMemory>
     requires index { index < 2 }
     requires most { most ≤ 1024 }
-    ensures value { IfOk result (λ copy. copy ≡ got_text index (read_of mem.now (need.Text addr most))) }
+    ensures value { IfOk result (λ copy.
+        copy ≡ got_text index (read_of mem.now (need.Text addr most))) }
     ensures fits { IfOk result (λ copy. BodyFits copy) }
 {
     match mem.read(alloc, &Need::Text(addr, most)) {
@@ -90,7 +92,8 @@ fn copy_of_text(
     }
 }
 
-/// The copy that answers an ask of an index, read from a memory at once. The only error is want of memory.
+/// The copy that answers an ask of an index, read from a memory at once. The only error is want of
+/// memory.
 pub(crate) fn copy_of(alloc: Global, mem: &Mem, index: u32, ask: &Body) -> Result<Body, NoMemory>
     requires { IsAskOf index ask.now }
     ensures value { IfOk result (λ copy. copy ≡ copy_of mem.now ask.now) }

@@ -1,5 +1,5 @@
-//! The client library's core: a machine that sends the system calls of a guest to a server, and answers
-//! what the server asks meanwhile.
+//! The client library's core: a machine that sends the system calls of a guest to a server, and
+//! answers what the server asks meanwhile.
 #![tactic(auto)]
 
 mod client;

@@ -30,7 +30,12 @@ impl Model for OpenRequest {
 
     ghost coded = { open_code };
 
-    ghost view = { λ x. record { request = x.request; delivery = x.delivery; asked = x.asked.items; response = x.response } };
+    ghost view = { λ x. record {
+      request = x.request;
+      delivery = x.delivery;
+      asked = x.asked.items;
+      response = x.response;
+    } };
 
     ghost invariant = { λ x. AskedOnce x.asked.items };
 }
@@ -93,7 +98,8 @@ impl OpenRequest {
         self.asked.push(index);
     }
 
-    /// Writes bytes into the caller's memory; where it has no place for them, the answer becomes EFAULT.
+    /// Writes bytes into the caller's memory; where it has no place for them, the answer becomes
+    /// EFAULT.
     pub(crate) fn put(&mut self, addr: u64, bytes: &[u8])
         ensures { self.new ≡ record self.old {
           delivery = put_piece self.old.delivery (record { addr = addr; bytes = bytes.now });

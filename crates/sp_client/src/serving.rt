@@ -21,8 +21,8 @@ use sp_frames::{Body, Frame};
 impl ClientCore {
     /// A frame came from the server.
     ///
-    /// BadServer, with the frame, where it is none that the server may send now: then the talk with it
-    /// is over. Nothing otherwise, and once the talk is over: then nothing changes.
+    /// BadServer, with the frame, where it is none that the server may send now: then the talk with
+    /// it is over. Nothing otherwise, and once the talk is over: then nothing changes.
     pub fn frame(&mut self, frame: Frame) -> Reply
         ensures { Plays self.old (event.Frame frame) result self.new }
     {
@@ -105,7 +105,8 @@ impl ClientCore {
         requires new { (x : state.Open) → map.get self.old.requests number.0 ≡ Some x
             → was_asked x.asked index ≡ false }
         ensures { (x : state.Open) → map.get self.old.requests number.0 ≡ Some x
-            → self.new ≡ with_request self.old number.0 (record x { asked = x.asked ++ index ∷ [] }) }
+            → self.new ≡ with_request self.old number.0
+            (record x { asked = x.asked ++ index ∷ [] }) }
     {
         let mut request = self.blank();
         self.requests.swap(number.0, &mut request);
