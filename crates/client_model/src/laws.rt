@@ -36,12 +36,12 @@ pub fn memory_changes_where_allowed()
         → WasStarted call mem r now → map.get now.requests r.0 ≡ Some x
         → ChangesOnly (is_allowed call) mem x.delivery.mem }
     ensures collected { (now new : Client) (call : Call) (mem back : List Part)
-        (r : ReqNo) (answer : Reply) → WasStarted call mem r now → Plays now (event.Collect r) answer new
-        → is_refusal answer ≡ false → memory_back answer ≡ Some back
+        (r : ReqNo) (answer : Reply) → WasStarted call mem r now
+        → Plays now (event.Collect r) answer new → is_refusal answer ≡ false → memory_back answer ≡ Some back
         → ChangesOnly (is_allowed call) mem back }
     ensures refused { (old new : Client) (caller : Caller) (call : Call)
-        (mem back : List Part) (answer : Reply) → Plays old (event.Start caller call mem) answer new → memory_back answer ≡ Some back
-        → back ≡ mem }
+        (mem back : List Part) (answer : Reply) → Plays old (event.Start caller call mem) answer new
+        → memory_back answer ≡ Some back → back ≡ mem }
 {}
 
 /// What ended the talk with the server first stays so for good.

@@ -7,5 +7,7 @@ mod copies;
 mod fitness;
 mod request;
 mod serving;
+#[cfg(test)]
+mod tests;
 
 pub use client::ClientCore;
