@@ -1,35 +1,193 @@
-// Conversations, with each frame as the protocol has it, and the frames that no server may send.
+// Conversations, step by step, with each frame as the protocol has it; and the frames that no server may send.
 use crate::ClientCore;
-use client_model::{Hello, Reply};
-use sp_base::{Answer, Call, Errno, Items, Need, Octets, Pid, Place, ReqNo, SpError, Words};
+use client_model::{Event, Hello, Reply};
+use sp_base::{Answer, Call, Caller, Items, Octets, Pid, Place, ReqNo, SpError, Words};
 use sp_copy::{Mem, Part, Right};
 use sp_frames::{Body, Frame};
 use std::alloc::Global;
+use std::process::Abort;
 use std::test::Fail;
 
-/// The address of the one part of the caller's memory.
+/// The address of the one part of a caller's memory.
 const BASE: u64 = 4096;
 
-/// The number of the call, behind the handshake.
-const CALL: u64 = 2;
+/// A call, at the part's address.
+#[derive(Clone, Copy)]
+enum Asked {
+    Getpid,
+    /// Of a path.
+    Chdir,
+    /// Of four bytes.
+    Write,
+    /// Of eight bytes.
+    Read,
+    /// Of four bytes, and an address of four bytes behind them.
+    Receive,
+}
 
-const ANSWER: Answer = Answer {
-    err: 0,
-    ret0: 4,
-    ret1: 0,
-    place: Place(9),
-};
+/// What a server sends.
+#[derive(Clone, Copy)]
+enum Sent {
+    Hello,
+    Answered,
+    Refused(u16),
+    Ask(u32, u64, u64),
+    AskText(u64),
+    Put(u64, &'static str),
+    Copy,
+    Sys,
+    Prefork,
+}
 
-/// A memory of one part.
-fn memory(alloc: Global, right: Right, text: &str) -> Result<Mem, Fail> {
+/// What happens to a client.
+#[derive(Clone, Copy)]
+enum Step {
+    /// With a memory of this text.
+    Start(Asked, &'static str),
+    /// With a memory of this text 1,024 times.
+    StartLong(Asked, &'static str),
+    Frame(u64, Sent),
+    Collect(u64),
+    Take,
+    Gone,
+}
+
+fn call(asked: Asked) -> Call {
+    match asked {
+        Asked::Getpid => Call::Getpid,
+        Asked::Chdir => Call::Chdir { path: BASE },
+        Asked::Write => Call::Write {
+            fd: 3,
+            input: BASE,
+            len: 4,
+        },
+        Asked::Read => Call::Read {
+            fd: 3,
+            out: BASE,
+            len: 8,
+        },
+        Asked::Receive => Call::Recvfrom {
+            fd: 3,
+            out: BASE,
+            len: 4,
+            address: BASE + 4,
+            address_max: 4,
+        },
+    }
+}
+
+/// A memory of one part, with a text so many times.
+fn memory(alloc: Global, times: u32, text: &str) -> Result<Mem, Fail> {
+    let mut bytes = Octets::none(alloc);
+    for _ in 0..times {
+        bytes.extend(text.as_bytes())?;
+    }
     let mut parts = Items::none(alloc);
-    let bytes = Octets::of(alloc, text.as_bytes())?;
     parts.push(Part {
         base: BASE,
-        right,
+        right: Right::Both,
         bytes,
     })?;
     Ok(Mem::new(alloc, parts)?)
+}
+
+fn body(alloc: Global, sent: Sent) -> Result<Body, Fail> {
+    Ok(match sent {
+        Sent::Hello => Body::Hello { pid: Pid(2) },
+        Sent::Answered => Body::Answered(Answer {
+            err: 0,
+            ret0: 4,
+            ret1: 1,
+            place: Place(9),
+        }),
+        Sent::Refused(kind) => Body::Refused {
+            kind,
+            why: SpError::Memory,
+        },
+        Sent::Ask(index, addr, len) => Body::AskBytes { index, addr, len },
+        Sent::AskText(max) => Body::AskText {
+            index: 0,
+            addr: BASE,
+            max,
+        },
+        Sent::Put(addr, text) => Body::Put {
+            index: 0,
+            addr,
+            bytes: Octets::of(alloc, text.as_bytes())?,
+        },
+        Sent::Copy => Body::GotBytes {
+            index: 0,
+            err: 14,
+            bytes: Octets::none(alloc),
+        },
+        Sent::Sys => Body::Sys {
+            num: 1,
+            words: Words::none(),
+        },
+        Sent::Prefork => Body::Prefork,
+    })
+}
+
+fn event(alloc: Global, step: Step) -> Result<Event, Fail> {
+    Ok(match step {
+        Step::Start(asked, text) => Event::Start(Caller(1), call(asked), memory(alloc, 1, text)?),
+        Step::StartLong(asked, text) => {
+            Event::Start(Caller(1), call(asked), memory(alloc, 1024, text)?)
+        }
+        Step::Frame(number, sent) => Event::Frame(Frame {
+            number: ReqNo(number),
+            body: body(alloc, sent)?,
+        }),
+        Step::Collect(number) => Event::Collect(ReqNo(number)),
+        Step::Take => Event::Take,
+        Step::Gone => Event::Gone,
+    })
+}
+
+/// The bytes of a memory.
+fn bytes(alloc: Global, mem: &Mem) -> Result<String, Fail> {
+    let mut text = String::new(alloc);
+    for part in mem.parts() {
+        for byte in part.bytes.slice() {
+            text.push(char::from(*byte))?;
+        }
+    }
+    Ok(text)
+}
+
+/// A word, and the memory that comes back.
+fn with_memory(alloc: Global, word: &str, mem: Mem) -> Result<String, Fail> {
+    let text = bytes(alloc, &mem)?;
+    Ok(format!(in alloc; "{word} {text}")?)
+}
+
+/// An answer, and the memory that comes back.
+fn got(alloc: Global, answer: Answer, mem: Mem) -> Result<String, Fail> {
+    let text = bytes(alloc, &mem)?;
+    let place = answer.place.0;
+    Ok(format!(in alloc;
+        "Got {} {} {} {place} {text}",
+        answer.err, answer.ret0, answer.ret1
+    )?)
+}
+
+/// A reply as text.
+fn said(alloc: Global, reply: Reply) -> Result<String, Fail> {
+    match reply {
+        Reply::Out(frame) => Ok(format!(in alloc; "{:?} {:?}", frame.number, frame.body)?),
+        Reply::Started(number) => Ok(format!(in alloc; "Started {}", number.0)?),
+        Reply::Joined { pid, place } => Ok(format!(in alloc; "Joined {} {place:?}", pid.0)?),
+        Reply::Got(answer, mem) => got(alloc, answer, mem),
+        Reply::Busy(mem) => with_memory(alloc, "Busy", mem),
+        Reply::Refused(_why, mem) => with_memory(alloc, "Refused", mem),
+        Reply::Lost(mem) => with_memory(alloc, "Lost", mem),
+        Reply::Broken(mem) => with_memory(alloc, "Broken", mem),
+        Reply::NotYet(mem) => with_memory(alloc, "NotYet", mem),
+        Reply::NoMemory(mem) => with_memory(alloc, "NoMemory", mem),
+        Reply::Nothing => with_memory(alloc, "Nothing", Mem::none(alloc)),
+        Reply::BadServer(_frame) => with_memory(alloc, "BadServer", Mem::none(alloc)),
+        Reply::Unknown => with_memory(alloc, "Unknown", Mem::none(alloc)),
+    }
 }
 
 /// A client whose handshake is queued.
@@ -38,373 +196,248 @@ fn guest(alloc: Global) -> Result<ClientCore, Fail> {
     Ok(ClientCore::fresh(alloc, Hello::Guest(name))?)
 }
 
-fn frame(number: u64, body: Body) -> Frame {
-    Frame {
-        number: ReqNo(number),
-        body,
+/// A client answers each step as the table says.
+fn answers(
+    rt: &impl Abort,
+    alloc: Global,
+    core: &mut ClientCore,
+    steps: &[(Step, &str)],
+) -> Result<(), Fail> {
+    for (step, want) in steps {
+        let reply = core.play(event(alloc, *step)?);
+        let text = said(alloc, reply)?;
+        assert_eq!(rt; text.as_str(), *want);
     }
+    Ok(())
 }
 
-/// A client that speaks for a process, and has sent a call.
-fn calling(alloc: Global, call: Call, mem: Mem) -> Result<ClientCore, Fail> {
-    let mut core = guest(alloc)?;
-    core.take();
-    core.frame(frame(1, Body::Hello { pid: Pid(2) }));
-    core.collect(ReqNo(1));
-    core.start(call, mem);
-    core.take();
-    Ok(core)
+const HELLO: &str = "ReqNo(1) Guest { name: Octets { items: [118, 105] } }";
+
+const HANDSHAKE: [(Step, &str); 7] = [
+    (Step::Start(Asked::Getpid, "mine"), "NotYet mine"),
+    (Step::Collect(1), "NotYet "),
+    (Step::Take, HELLO),
+    (Step::Take, "Nothing "),
+    (Step::Frame(1, Sent::Hello), "Nothing "),
+    (Step::Collect(1), "Joined 2 None"),
+    (Step::Collect(1), "Unknown "),
+];
+
+#[test]
+fn a_handshake(rt: HostRuntime) -> Result<(), Fail> {
+    let mut core = guest(rt.alloc())?;
+    assert!(rt; !core.is_still(), "the handshake is queued");
+    answers(&rt, rt.alloc(), &mut core, &HANDSHAKE)?;
+    assert!(rt; core.is_still(), "all is sent and collected");
+    Ok(())
 }
 
-/// The oldest queued frame, as text.
-fn sent(alloc: Global, core: &mut ClientCore) -> Result<String, Fail> {
-    match core.take() {
-        Reply::Out(frame) => Ok(format!(in alloc; "{frame:?}")?),
-        _ => Err(Fail::from("no frame is queued")),
+/// Calls of a client that speaks for a process, each under the next number.
+const CALLS: [(Step, &str); 27] = [
+    (Step::Start(Asked::Getpid, ""), "Started 2"),
+    (
+        Step::Take,
+        "ReqNo(2) Sys { num: 1, words: Words { items: [] } }",
+    ),
+    (Step::Collect(2), "NotYet "),
+    (Step::Frame(2, Sent::Answered), "Nothing "),
+    (Step::Collect(2), "Got 0 4 1 9 "),
+    (Step::Start(Asked::Write, "abcd"), "Started 3"),
+    (
+        Step::Take,
+        "ReqNo(3) Sys { num: 5, words: Words { items: [3, 4096, 4] } }",
+    ),
+    (Step::Frame(3, Sent::Ask(0, BASE, 4)), "Nothing "),
+    (
+        Step::Take,
+        "ReqNo(3) GotBytes { index: 0, err: 0, bytes: Octets { items: [97, 98, 99, 100] } }",
+    ),
+    (Step::Start(Asked::Write, "abc"), "Started 4"),
+    (Step::Frame(4, Sent::Ask(0, BASE, 4)), "Nothing "),
+    (
+        Step::Take,
+        "ReqNo(4) Sys { num: 5, words: Words { items: [3, 4096, 4] } }",
+    ),
+    (
+        Step::Take,
+        "ReqNo(4) GotBytes { index: 0, err: 14, bytes: Octets { items: [] } }",
+    ),
+    (Step::Start(Asked::Read, "........"), "Started 5"),
+    (Step::Frame(5, Sent::Put(BASE + 6, "gh")), "Nothing "),
+    (Step::Frame(5, Sent::Put(BASE, "ab")), "Nothing "),
+    (Step::Frame(5, Sent::Answered), "Nothing "),
+    (Step::Collect(5), "Got 0 4 1 9 ab....gh"),
+    (Step::Start(Asked::Read, "...."), "Started 6"),
+    (Step::Frame(6, Sent::Put(BASE + 3, "de")), "Nothing "),
+    (Step::Frame(6, Sent::Put(BASE, "a")), "Nothing "),
+    (Step::Frame(6, Sent::Answered), "Nothing "),
+    (Step::Collect(6), "Got 14 0 0 9 a..."),
+    (Step::Start(Asked::Getpid, "mine"), "Started 7"),
+    (Step::Frame(7, Sent::Refused(1)), "Nothing "),
+    (Step::Collect(7), "Refused mine"),
+    (
+        Step::Take,
+        "ReqNo(5) Sys { num: 4, words: Words { items: [3, 4096, 8] } }",
+    ),
+];
+
+#[test]
+fn calls(rt: HostRuntime) -> Result<(), Fail> {
+    let mut core = guest(rt.alloc())?;
+    answers(&rt, rt.alloc(), &mut core, &HANDSHAKE)?;
+    answers(&rt, rt.alloc(), &mut core, &CALLS)
+}
+
+/// Calls with a path, and what answers the ask for it.
+const PATHS: [(Step, &str); 3] = [
+    (
+        Step::Start(Asked::Chdir, "/d\0"),
+        "ReqNo(2) GotText { index: 0, err: 0, bytes: Octets { items: [47, 100] } }",
+    ),
+    (
+        Step::Start(Asked::Chdir, "/d"),
+        "ReqNo(2) GotText { index: 0, err: 14, bytes: Octets { items: [] } }",
+    ),
+    (
+        Step::StartLong(Asked::Chdir, "/d"),
+        "ReqNo(2) GotText { index: 0, err: 63, bytes: Octets { items: [] } }",
+    ),
+];
+
+#[test]
+fn paths(rt: HostRuntime) -> Result<(), Fail> {
+    for (start, copy) in PATHS {
+        let mut core = guest(rt.alloc())?;
+        answers(&rt, rt.alloc(), &mut core, &HANDSHAKE)?;
+        let steps = [
+            (start, "Started 2"),
+            (
+                Step::Take,
+                "ReqNo(2) Sys { num: 17, words: Words { items: [4096] } }",
+            ),
+            (Step::Frame(2, Sent::AskText(1024)), "Nothing "),
+            (Step::Take, copy),
+        ];
+        answers(&rt, rt.alloc(), &mut core, &steps)?;
     }
-}
-
-fn is_bad(reply: Reply) -> bool {
-    matches!(reply, Reply::BadServer(_))
-}
-
-const HELLO: &str =
-    "Frame { number: ReqNo(1), body: Guest { name: Octets { items: [118, 105] } } }";
-
-#[test]
-fn a_handshake_and_a_call(rt: HostRuntime) -> Result<(), Fail> {
-    let alloc = rt.alloc();
-    let mut core = guest(alloc)?;
-    assert!(rt; matches!(core.start(Call::Getpid, Mem::none(alloc)), Reply::NotYet(_)));
-    assert!(rt; matches!(core.collect(ReqNo(1)), Reply::NotYet(_)));
-    assert_eq!(rt; sent(alloc, &mut core)?.as_str(), HELLO);
-    assert!(rt; core.is_still() && !core.is_answered(ReqNo(1)));
-    core.frame(frame(1, Body::Hello { pid: Pid(2) }));
-    assert!(rt; !core.is_still() && core.is_answered(ReqNo(1)));
-    let joined = core.collect(ReqNo(1));
-    assert!(rt;
-        matches!(
-            joined,
-            Reply::Joined {
-                pid: Pid(2),
-                place: None
-            }
-        )
-    );
-    let started = core.start(Call::Getpid, Mem::none(alloc));
-    assert!(rt; matches!(started, Reply::Started(ReqNo(2))));
-    let call = "Frame { number: ReqNo(2), body: Sys { num: 1, words: Words { items: [] } } }";
-    assert_eq!(rt; sent(alloc, &mut core)?.as_str(), call);
-    core.frame(frame(CALL, Body::Answered(ANSWER)));
-    assert!(rt; matches!(core.collect(ReqNo(CALL)), Reply::Got(answer, _) if answer == ANSWER));
-    assert!(rt; matches!(core.collect(ReqNo(CALL)), Reply::Unknown));
-    assert!(rt; matches!(core.take(), Reply::Nothing));
     Ok(())
 }
 
-const fn write(input: u64, len: u64) -> Call {
-    Call::Write { fd: 3, input, len }
-}
-
-const fn read(out: u64, len: u64) -> Call {
-    Call::Read { fd: 3, out, len }
-}
-
-const fn ask(index: u32, addr: u64, len: u64) -> Body {
-    Body::AskBytes { index, addr, len }
-}
-
-fn put(alloc: Global, addr: u64, text: &str) -> Result<Body, Fail> {
-    let bytes = Octets::of(alloc, text.as_bytes())?;
-    Ok(Body::Put {
-        index: 0,
-        addr,
-        bytes,
-    })
-}
+/// The link is lost under way, after one answer.
+const LOST: [(Step, &str); 10] = [
+    (Step::Start(Asked::Read, "........"), "Started 2"),
+    (Step::Start(Asked::Getpid, "mine"), "Started 3"),
+    (Step::Frame(2, Sent::Put(BASE, "ab")), "Nothing "),
+    (Step::Frame(3, Sent::Answered), "Nothing "),
+    (Step::Gone, "Nothing "),
+    (Step::Frame(7, Sent::Prefork), "Nothing "),
+    (Step::Collect(2), "Lost ab......"),
+    (Step::Collect(3), "Got 0 4 1 9 mine"),
+    (Step::Start(Asked::Getpid, "mine"), "Lost mine"),
+    (
+        Step::Take,
+        "ReqNo(2) Sys { num: 4, words: Words { items: [3, 4096, 8] } }",
+    ),
+];
 
 #[test]
-fn a_call_that_reads_its_callers_memory(rt: HostRuntime) -> Result<(), Fail> {
-    let alloc = rt.alloc();
-    let mem = memory(alloc, Right::Readable, "abcd")?;
-    let mut core = calling(alloc, write(BASE, 4), mem)?;
-    core.frame(frame(CALL, ask(0, BASE, 4)));
-    let copy =
-        "Frame { number: ReqNo(2), body: GotBytes { index: 0, err: 0, bytes: Octets { items: [97, 98, 99, 100] } } }";
-    assert_eq!(rt; sent(alloc, &mut core)?.as_str(), copy);
-    let mem = memory(alloc, Right::Writable, "abcd")?;
-    let mut core = calling(alloc, write(BASE, 4), mem)?;
-    core.frame(frame(CALL, ask(0, BASE, 4)));
-    let fault =
-        "Frame { number: ReqNo(2), body: GotBytes { index: 0, err: 14, bytes: Octets { items: [] } } }";
-    assert_eq!(rt; sent(alloc, &mut core)?.as_str(), fault);
-    Ok(())
-}
-
-/// The copies that answer the ask for a path in the memory of a text.
-fn path_copy(alloc: Global, text: &str) -> Result<String, Fail> {
-    let mem = memory(alloc, Right::Readable, text)?;
-    let mut core = calling(alloc, Call::Chdir { path: BASE }, mem)?;
-    core.frame(frame(
-        CALL,
-        Body::AskText {
-            index: 0,
-            addr: BASE,
-            max: 1024,
-        },
-    ));
-    sent(alloc, &mut core)
-}
-
-#[test]
-fn a_call_that_reads_a_path(rt: HostRuntime) -> Result<(), Fail> {
-    let alloc = rt.alloc();
-    let path =
-        "Frame { number: ReqNo(2), body: GotText { index: 0, err: 0, bytes: Octets { items: [47, 100] } } }";
-    assert_eq!(rt; path_copy(alloc, "/d\0")?.as_str(), path);
-    let fault =
-        "Frame { number: ReqNo(2), body: GotText { index: 0, err: 14, bytes: Octets { items: [] } } }";
-    assert_eq!(rt; path_copy(alloc, "/d")?.as_str(), fault);
-    let mut long = String::new(alloc);
-    for _ in 0..1024 {
-        long.push('x')?;
-    }
-    let no_end =
-        "Frame { number: ReqNo(2), body: GotText { index: 0, err: 63, bytes: Octets { items: [] } } }";
-    assert_eq!(rt; path_copy(alloc, long.as_str())?.as_str(), no_end);
-    Ok(())
-}
-
-/// What a caller is left with: its answer, and its first four bytes where they can be read.
-fn collected(core: &mut ClientCore) -> Result<(Answer, Mem), Fail> {
-    match core.collect(ReqNo(CALL)) {
-        Reply::Got(answer, mem) => Ok((answer, mem)),
-        _ => Err(Fail::from("the call has no answer")),
-    }
-}
-
-#[test]
-fn a_call_that_writes_its_callers_memory(rt: HostRuntime) -> Result<(), Fail> {
-    let alloc = rt.alloc();
-    let mut core = calling(alloc, read(BASE, 4), memory(alloc, Right::Both, "....")?)?;
-    core.frame(frame(CALL, put(alloc, BASE + 2, "cd")?));
-    core.frame(frame(CALL, put(alloc, BASE, "a")?));
-    core.frame(frame(CALL, Body::Answered(ANSWER)));
-    let (answer, mem) = collected(&mut core)?;
-    assert_eq!(rt; answer, ANSWER);
-    assert_eq!(rt; mem.look(&Need::Bytes(BASE, 4)), Ok(b"a.cd".as_slice()));
-    Ok(())
-}
-
-#[test]
-fn a_call_whose_caller_has_no_place(rt: HostRuntime) -> Result<(), Fail> {
-    let alloc = rt.alloc();
-    let mut core = calling(alloc, read(BASE, 8), memory(alloc, Right::Both, "....")?)?;
-    assert!(rt; !is_bad(core.frame(frame(CALL, put(alloc, BASE + 3, "de")?))));
-    core.frame(frame(CALL, put(alloc, BASE, "a")?));
-    core.frame(frame(CALL, Body::Answered(ANSWER)));
-    let (answer, mem) = collected(&mut core)?;
-    let fault = Answer {
-        err: Errno::Efault.number(),
-        ret0: 0,
-        ret1: 0,
-        place: Place(9),
-    };
-    assert_eq!(rt; answer, fault);
-    assert_eq!(rt; mem.look(&Need::Bytes(BASE, 4)), Ok(b"a...".as_slice()));
-    Ok(())
-}
-
-#[test]
-fn a_call_that_is_refused(rt: HostRuntime) -> Result<(), Fail> {
-    let alloc = rt.alloc();
-    let mut core = calling(alloc, Call::Getpid, Mem::none(alloc))?;
-    core.frame(frame(
-        CALL,
-        Body::Refused {
-            kind: 1,
-            why: SpError::Memory,
-        },
-    ));
-    let refused = core.collect(ReqNo(CALL));
-    assert!(rt; matches!(refused, Reply::Refused(SpError::Memory, _)));
-    Ok(())
-}
-
-#[test]
-fn what_ended_first_decides(rt: HostRuntime) -> Result<(), Fail> {
-    let alloc = rt.alloc();
-    let mut core = calling(alloc, read(BASE, 4), memory(alloc, Right::Both, "....")?)?;
-    core.frame(frame(CALL, put(alloc, BASE, "ab")?));
-    core.gone();
-    assert!(rt; matches!(core.frame(frame(7, Body::Prefork)), Reply::Nothing));
-    let Reply::Lost(mem) = core.collect(ReqNo(CALL)) else {
-        return Err(Fail::from("the call isn't lost"));
-    };
-    assert_eq!(rt; mem.look(&Need::Bytes(BASE, 4)), Ok(b"ab..".as_slice()));
-    let mut core = calling(alloc, Call::Getpid, Mem::none(alloc))?;
-    core.frame(frame(7, Body::Prefork));
-    core.gone();
-    assert!(rt; matches!(core.start(Call::Getpid, Mem::none(alloc)), Reply::Broken(_)));
-    assert!(rt; matches!(core.collect(ReqNo(CALL)), Reply::Broken(_)));
-    Ok(())
+fn a_lost_link(rt: HostRuntime) -> Result<(), Fail> {
+    let mut core = guest(rt.alloc())?;
+    answers(&rt, rt.alloc(), &mut core, &HANDSHAKE)?;
+    answers(&rt, rt.alloc(), &mut core, &LOST)
 }
 
 #[test]
 fn as_many_requests_as_can_be(rt: HostRuntime) -> Result<(), Fail> {
-    let alloc = rt.alloc();
-    let mut core = calling(alloc, Call::Getpid, Mem::none(alloc))?;
-    for number in 3..66 {
-        assert!(rt; !core.is_busy());
-        let started = core.start(Call::Getpid, Mem::none(alloc));
-        assert!(rt; matches!(started, Reply::Started(ReqNo(n)) if n == number));
+    let mut core = guest(rt.alloc())?;
+    answers(&rt, rt.alloc(), &mut core, &HANDSHAKE)?;
+    for started in 0..64 {
+        assert!(rt; !core.is_busy(), "{started} calls are open");
+        core.play(event(rt.alloc(), Step::Start(Asked::Getpid, ""))?);
     }
     assert!(rt; core.is_busy());
-    assert!(rt; matches!(core.start(Call::Getpid, Mem::none(alloc)), Reply::Busy(_)));
-    Ok(())
+    let busy = [(Step::Start(Asked::Getpid, "mine"), "Busy mine")];
+    answers(&rt, rt.alloc(), &mut core, &busy)
 }
 
-/// Whether a frame is one that no server may send for a call that was just sent.
-fn is_bad_for(alloc: Global, call: Call, number: u64, body: Body) -> Result<bool, Fail> {
-    let mut core = calling(alloc, call, memory(alloc, Right::Both, "....")?)?;
-    let bad = is_bad(core.frame(frame(number, body)));
-    let over = matches!(core.collect(ReqNo(CALL)), Reply::Broken(_));
-    Ok(bad && over)
-}
-
-#[test]
-fn frames_of_no_open_request(rt: HostRuntime) -> Result<(), Fail> {
-    let alloc = rt.alloc();
-    let answered = || Body::Answered(ANSWER);
-    assert!(rt;
-        is_bad_for(alloc, Call::Getpid, 3, answered())?,
-        "no such request"
-    );
-    assert!(rt;
-        is_bad_for(alloc, Call::Getpid, 1, answered())?,
-        "it is collected"
-    );
-    let mut core = calling(alloc, Call::Getpid, Mem::none(alloc))?;
-    core.frame(frame(CALL, answered()));
-    assert!(rt;
-        is_bad(core.frame(frame(CALL, answered()))),
-        "it is answered"
-    );
-    assert!(rt; matches!(core.collect(ReqNo(CALL)), Reply::Got(..)));
-    Ok(())
-}
-
-#[test]
-fn frames_of_the_wrong_kind(rt: HostRuntime) -> Result<(), Fail> {
-    let alloc = rt.alloc();
-    let why = SpError::Memory;
-    let sys = Body::Sys {
-        num: 1,
-        words: Words::none(),
-    };
-    let got = Body::GotBytes {
-        index: 0,
-        err: 14,
-        bytes: Octets::none(alloc),
-    };
-    let hello = Body::Hello { pid: Pid(2) };
-    let call = || Call::Getpid;
-    assert!(rt;
-        is_bad_for(alloc, call(), CALL, hello)?,
-        "a handshake's response"
-    );
-    assert!(rt;
-        is_bad_for(alloc, call(), CALL, Body::Refused { kind: 0, why })?,
-        "another type"
-    );
-    assert!(rt;
-        is_bad_for(alloc, call(), CALL, Body::Prefork)?,
-        "a request of clients"
-    );
-    assert!(rt;
-        is_bad_for(alloc, call(), CALL, sys)?,
-        "a request of clients"
-    );
-    assert!(rt; is_bad_for(alloc, call(), CALL, got)?, "a copy");
-    let mut core = guest(alloc)?;
-    assert!(rt;
-        is_bad(core.frame(frame(1, Body::Answered(ANSWER)))),
-        "a call's response"
-    );
-    let mut core = guest(alloc)?;
-    assert!(rt;
-        is_bad(core.frame(frame(1, Body::Refused { kind: 1, why }))),
-        "another type"
-    );
-    Ok(())
-}
-
-/// Asks for anything but the four bytes at the part's address that the call reads.
-const ASKS: [(u32, u64, u64, &str); 5] = [
-    (0, BASE + 1, 4, "another address"),
-    (0, BASE, 5, "more bytes"),
-    (0, BASE, 3, "fewer bytes"),
-    (1, BASE, 4, "no need of the index"),
-    (7, BASE, 4, "the highest index"),
+/// Frames that no server may send for the call that is open.
+const BAD_FRAMES: [(Asked, u64, Sent); 26] = [
+    (Asked::Getpid, 3, Sent::Answered),
+    (Asked::Getpid, 1, Sent::Answered),
+    (Asked::Getpid, 0, Sent::Refused(0)),
+    (Asked::Getpid, 2, Sent::Hello),
+    (Asked::Getpid, 2, Sent::Copy),
+    (Asked::Getpid, 2, Sent::Sys),
+    (Asked::Getpid, 2, Sent::Prefork),
+    (Asked::Getpid, 2, Sent::Refused(0)),
+    (Asked::Getpid, 2, Sent::Ask(0, BASE, 4)),
+    (Asked::Getpid, 2, Sent::Put(BASE, "a")),
+    (Asked::Write, 2, Sent::Ask(0, BASE + 1, 4)),
+    (Asked::Write, 2, Sent::Ask(0, BASE, 5)),
+    (Asked::Write, 2, Sent::Ask(0, BASE, 3)),
+    (Asked::Write, 2, Sent::Ask(1, BASE, 4)),
+    (Asked::Write, 2, Sent::Ask(7, BASE, 4)),
+    (Asked::Write, 2, Sent::AskText(4)),
+    (Asked::Write, 2, Sent::Put(BASE, "a")),
+    (Asked::Chdir, 2, Sent::AskText(1023)),
+    (Asked::Chdir, 2, Sent::Ask(0, BASE, 1024)),
+    (Asked::Receive, 2, Sent::Put(BASE - 1, "a")),
+    (Asked::Receive, 2, Sent::Put(BASE + 8, "a")),
+    (Asked::Receive, 2, Sent::Put(BASE - 1, "ab")),
+    (Asked::Receive, 2, Sent::Put(BASE + 3, "ab")),
+    (Asked::Receive, 2, Sent::Put(BASE, "abcdefgh")),
+    (Asked::Receive, 2, Sent::Put(u64::MAX, "ab")),
+    (Asked::Receive, 2, Sent::Ask(0, BASE, 4)),
 ];
 
 #[test]
-fn asks_for_anything_but_a_need(rt: HostRuntime) -> Result<(), Fail> {
-    let alloc = rt.alloc();
-    for (index, addr, len, why) in ASKS {
-        let call = write(BASE, 4);
-        assert!(rt;
-            is_bad_for(alloc, call, CALL, ask(index, addr, len))?,
-            "{why}"
-        );
+fn frames_that_no_server_may_send(rt: HostRuntime) -> Result<(), Fail> {
+    for (asked, number, sent) in BAD_FRAMES {
+        let mut core = guest(rt.alloc())?;
+        answers(&rt, rt.alloc(), &mut core, &HANDSHAKE)?;
+        let steps = [
+            (Step::Start(asked, "mine"), "Started 2"),
+            (Step::Frame(number, sent), "BadServer "),
+            (Step::Gone, "Nothing "),
+            (Step::Collect(2), "Broken mine"),
+        ];
+        answers(&rt, rt.alloc(), &mut core, &steps)?;
     }
-    let text = Body::AskText {
-        index: 0,
-        addr: BASE,
-        max: 4,
-    };
-    assert!(rt; is_bad_for(alloc, write(BASE, 4), CALL, text)?, "a text");
-    assert!(rt;
-        is_bad_for(alloc, Call::Getpid, CALL, ask(0, BASE, 4))?,
-        "no needs"
-    );
-    let mut core = calling(alloc, write(BASE, 4), memory(alloc, Right::Both, "....")?)?;
-    assert!(rt; !is_bad(core.frame(frame(CALL, ask(0, BASE, 4)))));
-    assert!(rt;
-        is_bad(core.frame(frame(CALL, ask(0, BASE, 4)))),
-        "asked again"
-    );
     Ok(())
 }
 
-/// Bytes that lie not wholly inside one of the ranges of four bytes from the part's address on.
-const PUTS: [(u64, &str, &str); 5] = [
-    (BASE - 1, "a", "before the first range"),
-    (BASE + 8, "a", "behind the last range"),
-    (BASE - 1, "ab", "from before a range"),
-    (BASE + 3, "ab", "across both ranges"),
-    (u64::MAX, "ab", "past the last address"),
+/// Frames that may come once alone.
+const TWICE: [(Asked, Sent); 3] = [
+    (Asked::Write, Sent::Ask(0, BASE, 4)),
+    (Asked::Chdir, Sent::AskText(1024)),
+    (Asked::Getpid, Sent::Answered),
 ];
 
 #[test]
-fn puts_outside_the_ranges(rt: HostRuntime) -> Result<(), Fail> {
-    let alloc = rt.alloc();
-    for (addr, text, why) in PUTS {
-        let call = Call::Recvfrom {
-            fd: 3,
-            out: BASE,
-            len: 4,
-            address: BASE + 4,
-            address_max: 4,
-        };
-        assert!(rt;
-            is_bad_for(alloc, call, CALL, put(alloc, addr, text)?)?,
-            "{why}"
-        );
+fn frames_that_may_come_once(rt: HostRuntime) -> Result<(), Fail> {
+    for (asked, sent) in TWICE {
+        let mut core = guest(rt.alloc())?;
+        answers(&rt, rt.alloc(), &mut core, &HANDSHAKE)?;
+        let steps = [
+            (Step::Start(asked, "mine"), "Started 2"),
+            (Step::Frame(2, sent), "Nothing "),
+            (Step::Frame(2, sent), "BadServer "),
+        ];
+        answers(&rt, rt.alloc(), &mut core, &steps)?;
     }
-    assert!(rt;
-        is_bad_for(alloc, write(BASE, 4), CALL, put(alloc, BASE, "a")?)?,
-        "no ranges"
-    );
     Ok(())
+}
+
+#[test]
+fn a_handshake_that_is_refused(rt: HostRuntime) -> Result<(), Fail> {
+    let steps = [
+        (Step::Frame(1, Sent::Refused(0)), "Nothing "),
+        (Step::Collect(1), "Refused "),
+        (Step::Start(Asked::Getpid, "mine"), "NotYet mine"),
+    ];
+    answers(&rt, rt.alloc(), &mut guest(rt.alloc())?, &steps)?;
+    let bad = [(Step::Frame(1, Sent::Answered), "BadServer ")];
+    answers(&rt, rt.alloc(), &mut guest(rt.alloc())?, &bad)?;
+    let other = [(Step::Frame(1, Sent::Refused(1)), "BadServer ")];
+    answers(&rt, rt.alloc(), &mut guest(rt.alloc())?, &other)
 }
