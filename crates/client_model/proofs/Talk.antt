@@ -102,6 +102,14 @@ pub ending_stays : (old new : Client) (exchanges : List Exchange) (e : Ending) �
 ending_stays old new [] e runs is = ap (λ (k : Client). k.ending) runs ∙ is
 ending_stays old new (x ∷ xs) e runs is = ending_stays runs.0 new xs e runs.2 ((plays_goes old x.event x.reply runs.0 runs.1).ending e is)
 
+-- the highest number that was given never falls
+pub last_never_falls : (old new : Client) (e : Event) (answer : Reply) → Plays old e answer new → old.last ≤ new.last
+last_never_falls old new e answer plays =
+    elim (plays_goes old e answer new plays).numbers [
+      | inl p ↦ (let one = p.1 in omega arith)
+      | inr p ↦ (let same = p.1 in omega arith)
+    ]
+
 -- a number that is given is the next one
 pub started_next : (old : Client) (e : Event) (r : ReqNo) (new : Client) → Plays old e (reply.Started r) new → (r.0 ≡ old.last + 1) × (new.last ≡ r.0)
 started_next old e r new plays = by_numbers (plays_goes old e (reply.Started r) new plays).numbers

@@ -1,5 +1,5 @@
 //! The laws of the client's machine: functions that do nothing, and whose contracts are the laws.
-ghost use Rattle.std.specs.Prelude.{◌≡◌, ◌+◌, ◌∷◌, List, Some, false, true};
+ghost use Rattle.std.specs.Prelude.{◌≡◌, ◌≤◌, ◌+◌, ◌∷◌, List, Some, false, true};
 ghost use Rattle.std.specs.FinMap as map;
 ghost use Rattle.std.specs.List.Sorted.{IsStrictlySortedBy};
 ghost use Rattle.std.specs.Ordering.{nat_cmp};
@@ -21,6 +21,8 @@ ghost use Rattle.sp_copy.specs.declared.part.Part.{Part};
 /// The numbers of requests rise: each is above every number that was given before, so none comes
 /// again.
 pub fn numbers_rise()
+    ensures last { (old new : Client) (event : Event) (answer : Reply)
+        → Plays old event answer new → old.last ≤ new.last }
     ensures next { (old new : Client) (event : Event) (r : ReqNo)
         → Plays old event (reply.Started r) new → r.0 ≡ old.last + 1 }
     ensures highest { (old new : Client) (event : Event) (r : ReqNo)

@@ -1,4 +1,9 @@
+ghost use Rattle.std.specs.Prelude.{◌≡◌};
+ghost use Rattle.client_model.specs.Requests.{over};
+
+use crate::event::Reply;
 use sp_base::{Answer, Call, Pid, SpError};
+use sp_copy::Mem;
 
 /// How many requests of one client are open at the most.
 pub const OPEN_REQUESTS: u64 = 64;
@@ -30,4 +35,16 @@ pub enum Ending {
     Gone,
     /// The server sent what no server may send.
     Broken,
+}
+
+impl Ending {
+    /// What an unanswered request is answered once this ended the talk with the server.
+    pub fn reply(self, mem: Mem) -> Reply
+        ensures { result ≡ over self mem }
+    {
+        match self {
+            Ending::Gone => Reply::Lost(mem),
+            Ending::Broken => Reply::Broken(mem),
+        }
+    }
 }
