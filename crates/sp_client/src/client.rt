@@ -3,7 +3,7 @@ ghost use Rattle.std.specs.FinMap as map;
 ghost use Rattle.std.specs.List.{list_any};
 ghost use Rattle.client_model.specs.Machine.{Plays, played};
 ghost use Rattle.client_model.specs.Requests as requests;
-ghost use Rattle.client_model.specs.Requests.{closed, collected, highest_number, is_busy, over, start_now};
+ghost use Rattle.client_model.specs.Requests.{closed, collected, highest_number, is_busy, start_now};
 ghost use Rattle.client_model.specs.Run.{has_response, is_answered, is_still};
 ghost use Rattle.client_model.specs.State as state;
 ghost use Rattle.client_model.specs.State.{HasName, fresh_client, hello_frame};
@@ -84,16 +84,6 @@ fn call_frame(number: u64, call: &Call) -> Frame
             num: call.num(),
             words,
         },
-    }
-}
-
-/// What a request is answered once the talk with the server is over.
-fn over(ending: Ending, mem: Mem) -> Reply
-    ensures { result ≡ over ending mem }
-{
-    match ending {
-        Ending::Gone => Reply::Lost(mem),
-        Ending::Broken => Reply::Broken(mem),
     }
 }
 
@@ -188,7 +178,7 @@ impl ClientCore {
         ensures { (caller : Caller) → Plays self.old (event.Start caller call mem) result self.new }
     {
         if let Some(ending) = self.ending {
-            return over(ending, mem);
+            return ending.reply(mem);
         }
         if !self.ready {
             return Reply::NotYet(mem);
@@ -241,7 +231,7 @@ impl ClientCore {
         };
         match (request.response(), self.ending) {
             (Some(response), _) => collected(response, self.close(number)),
-            (None, Some(ending)) => over(ending, self.close(number).mem),
+            (None, Some(ending)) => ending.reply(self.close(number).mem),
             (None, None) => Reply::NotYet(Mem::none(self.alloc)),
         }
     }
