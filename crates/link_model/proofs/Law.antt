@@ -20,7 +20,7 @@ use Rattle.client_model.specs.Requests.{is_busy, start_by, start_now}
 use Rattle.client_model.specs.State.{Client, Played}
 use Rattle.client_model.specs.declared.event.Reply.TheVariants as reply
 use Rattle.client_model.specs.declared.request.Ending.{Ending}
-use Rattle.link_model.specs.Asked.{Asked, IsPerformed, IsAnswered, IsFine, number_of, start_of, after, journal_before, entry_of, direct_of, collected, idle}
+use Rattle.link_model.specs.Asked.{Asked, IsPerformed, IsAnswered, IsFine, Grows, number_of, start_of, after, journal_before, entry_of, direct_of, collected, idle}
 use Rattle.link_model.specs.Direct.{reads, seen}
 use Rattle.link_model.specs.Link.{Link, made, carried}
 use Rattle.link_model.specs.declared.moves.Move.{Move}
@@ -35,7 +35,7 @@ put_again : {X : Type 0} (m : FinMap nat_cmp X) (k : ℕ) (x : X) → get m k �
 put_again m k x h = sym (back m (insert m k x) k x x refl h) ∙ again m (insert m k x) k x x refl
 
 -- the client has sent the call's frame
-started : (a : Asked) → start_of a ≡ (reply.Started (number_of a), (shape a Sent).client)
+pub started : (a : Asked) → start_of a ≡ (reply.Started (number_of a), (shape a Sent).client)
 started a =
     let k = a.link.client in
     ap (λ (o : Option Ending). start_by k a.call a.mem o) a.whole.goes_on
@@ -56,10 +56,11 @@ begins a = record { stage = Sent; is = ap (λ (p : Played). record a.link { clie
 carries : (a : Asked) (link : Link) (moves : List Move) → Stands a link → Stands a (carried link moves)
 carries a link [] h = h
 carries a link (move ∷ moves) h =
-    carries a (made link move).link moves (subst (λ (l : Link). Stands a (made l move).link) (sym h.is) (move_goes a h.stage h.fact move).stands)
+    let goes = move_goes a h.stage h.fact move in
+    carries a (made link move).link moves (subst (λ (l : Link). Stands a (made l move).link) (sym h.is) (record { stage = goes.stage; is = goes.leads.is; fact = goes.fact }))
 
 -- whatever is moved, the link stands at a stage
-stands : (a : Asked) (moves : List Move) → Stands a (after a moves)
+pub stands : (a : Asked) (moves : List Move) → Stands a (after a moves)
 stands a moves = carries a (after a []) moves (begins a)
 
 -- ---- what is told of the stages
@@ -92,7 +93,7 @@ kept_place true answer = refl
 kept_place false answer = refl
 
 -- a call that was told is answered
-told_answered : (a : Asked) (indexes : List ℕ) (e : Entry) (now : Delivery) → Fact a (Told indexes e now) → IsAnswered a (shape a (Told indexes e now))
+pub told_answered : (a : Asked) (indexes : List ℕ) (e : Entry) (now : Delivery) → Fact a (Told indexes e now) → IsAnswered a (shape a (Told indexes e now))
 told_answered a indexes e now fact =
     let answer = answer_at e.outcome (length (journal_before a)) in
     record {
@@ -121,4 +122,15 @@ answer_stands a moves =
 
 -- neither side refuses what comes to it
 pub moves_fine : (a : Asked) (moves : List Move) (move : Move) → IsFine (made (after a moves) move)
-moves_fine a moves move = let h = stands a moves in subst (λ (l : Link). IsFine (made l move)) (sym h.is) (move_goes a h.stage h.fact move).fine
+moves_fine a moves move = let h = stands a moves in subst (λ (l : Link). IsFine (made l move)) (sym h.is) (move_goes a h.stage h.fact move).leads.fine
+
+-- the journal has the call's entry more exactly where the call is done
+pub journal_grows : (a : Asked) (moves : List Move) (move : Move)
+    → let link = after a moves in
+    let next = made link move in
+    Grows a link.server.journal next.server next.link.server.journal
+journal_grows a moves move =
+    let h = stands a moves in
+    let goes = move_goes a h.stage h.fact move in
+    subst (λ (l : Link). Grows a l.server.journal (made l move).server (made l move).link.server.journal) (sym h.is)
+    (subst (λ (l : Link). Grows a (look a h.stage).journal (made (shape a h.stage) move).server l.server.journal) (sym goes.leads.is) goes.leads.grows)

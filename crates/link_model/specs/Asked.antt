@@ -95,6 +95,11 @@ pub record IsAnswered (asked : Asked) (link : Link) : Type 0 where
   pub performed : IsPerformed asked link.server.journal
   pub place : answer.place.0 ≡ length (journal_before asked)
 
+-- the journal has the call's entry more exactly where the server answers that it is done, and had none before; else it is the same
+abbrev pub Grows : Asked → List Entry → Option ServerReply → List Entry → Type 0
+Grows asked old (Some server_reply.Done) new = (old ≡ journal_before asked) × IsPerformed asked new
+Grows asked old _ new = new ≡ old
+
 -- the server takes what comes
 abbrev pub is_taken : ServerReply → Bool
 is_taken (server_reply.Refused why) = false

@@ -1,0 +1,31 @@
+//! The law of one call through frames: a function that does nothing, and whose contract is the law.
+ghost use Rattle.std.specs.Prelude.{◌≡◌, ◌⊎◌, ◌++◌, IsSome, List, []};
+ghost use Rattle.client_model.specs.declared.event.Reply.{Reply};
+ghost use Rattle.link_model.specs.Asked.{Asked, Grows, IsAnswered, IsFine, IsPerformed, after, collected, direct_of, journal_before, number_of, start_of};
+ghost use Rattle.link_model.specs.Link.{made};
+ghost use Rattle.link_model.specs.declared.moves.Move.{Move};
+
+/// A call that is asked over a whole link gives what it gives where it is made of the kernel at once, with
+/// its caller's memory in hand, whatever moves are made on the link.
+pub fn calls_by_frames_are_direct()
+    ensures starts { (asked : Asked) → (start_of asked).0 ≡ Reply.Started (number_of asked) }
+    // neither side refuses what comes to it
+    ensures fine { (asked : Asked) (moves : List Move) (move : Move) → IsFine (made (after asked moves) move) }
+    // the journal grows as the call is done, and else never
+    ensures grows { (asked : Asked) (moves : List Move) (move : Move)
+        → let link = after asked moves in
+          let next = made link move in
+          Grows asked link.server.journal next.server next.link.server.journal }
+    // asking by frames is gathering: the call has one entry at the most, and it is of what the call reads of its caller's memory
+    ensures asks { (asked : Asked) (moves : List Move)
+        → let journal = (after asked moves).server.journal in
+          (journal ≡ journal_before asked) ⊎ IsPerformed asked journal }
+    // putting by frames is delivering: the call isn't answered yet, or its caller sees what it would see at once
+    ensures puts { (asked : Asked) (moves : List Move)
+        → let link = after asked moves in
+          (collected asked link ≡ Reply.NotYet []) ⊎ IsAnswered asked link }
+    // the call can always be brought to its answer, where the kernel is ready for it
+    ensures ends { (asked : Asked) (moves : List Move)
+        → IsSome (direct_of asked)
+        → (more : List Move) × IsAnswered asked (after asked (moves ++ more)) }
+{}
