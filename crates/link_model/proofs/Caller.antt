@@ -1,6 +1,6 @@
 -- What the client does at each stage of a call.
-use Rattle.std.proofs.Common.{◌≡◌, ℕ, ◌+◌, ◌<◌, ◌==◌, ◌&&◌, ◌||◌, Bool, true, false, List, [], ◌∷◌, ◌++◌, length, Option, Some, None, refl, ap, ◌∙◌, arith}
-use Rattle.std.specs.Prelude.{slice_get, not}
+use Rattle.std.proofs.Common.{◌≡◌, ℕ, ◌+◌, ◌==◌, Bool, true, false, List, [], ◌∷◌, ◌++◌, Option, Some, None, refl, ap, ◌∙◌, arith}
+use Rattle.std.specs.Prelude.{slice_get}
 use Rattle.std.specs.List.{list_any}
 use Rattle.std.specs.Ordering.{nat_cmp}
 use Rattle.std.specs.FinMap.{FinMap, get, insert}
@@ -20,10 +20,9 @@ use Rattle.hub_model.specs.Frames.{ask, ask_body}
 use Rattle.client_model.specs.Asks.{goes_on}
 use Rattle.client_model.specs.Fitness.{fits_call, may_come}
 use Rattle.client_model.specs.Machine.{played, take_in, frame_if}
-use Rattle.client_model.specs.Requests.{collect_at}
-use Rattle.client_model.specs.State.{Open, Client, Played, with_request}
+use Rattle.client_model.specs.Requests.{collect_at, closed}
+use Rattle.client_model.specs.State.{Open, Client, with_request}
 use Rattle.client_model.specs.declared.event.Event.TheVariants as event
-use Rattle.client_model.specs.declared.event.Reply.{Reply}
 use Rattle.client_model.specs.declared.event.Reply.TheVariants as reply
 use Rattle.client_model.specs.declared.request.Response.TheVariants as response
 use Rattle.tables.proofs.Entries.{again}
@@ -108,9 +107,10 @@ none_collected a now indexes queue =
     let x = open_of a now indexes None in
     ap (λ (o : Option Open). (collect_at (client_at a x queue) (number_of a) o).0) (open_there a x queue)
 
--- a call that is answered
-pub answer_collected : (a : Asked) (now : Delivery) (indexes : List ℕ) (queue : List Frame) (answer : Answer)
-    → (played (client_at a (open_of a now indexes (Some (response.Answered answer))) queue) (event.Collect (number_of a))).0 ≡ reply.Got (answer_after now.whole answer) now.mem
-answer_collected a now indexes queue answer =
+-- a call that is answered is open no more
+pub answer_plays : (a : Asked) (now : Delivery) (indexes : List ℕ) (queue : List Frame) (answer : Answer)
+    → let k = client_at a (open_of a now indexes (Some (response.Answered answer))) queue in
+    played k (event.Collect (number_of a)) ≡ (reply.Got (answer_after now.whole answer) now.mem, closed k (number_of a))
+answer_plays a now indexes queue answer =
     let x = open_of a now indexes (Some (response.Answered answer)) in
-    ap (λ (o : Option Open). (collect_at (client_at a x queue) (number_of a) o).0) (open_there a x queue)
+    ap (λ (o : Option Open). collect_at (client_at a x queue) (number_of a) o) (open_there a x queue)

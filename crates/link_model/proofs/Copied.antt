@@ -13,7 +13,6 @@ use Rattle.sp_frames.specs.declared.frame.Body.{Body}
 use Rattle.kern_model.specs.Journal.{state_after}
 use Rattle.kern_model.specs.State.{State}
 use Rattle.kern_model.specs.declared.journal.Entry.{Entry}
-use Rattle.hub_model.specs.Frames.{ask_body}
 use Rattle.hub_model.specs.Machine.{played}
 use Rattle.hub_model.specs.Requests.{frame_by, go_on, bytes_in, with_copy, with_error}
 use Rattle.hub_model.specs.State.{Connection}
@@ -23,12 +22,10 @@ use Rattle.hub_model.specs.declared.event.Reply.TheVariants as reply
 use Rattle.hub_model.specs.declared.state.OpenCall.{OpenCall}
 use Rattle.hub_model.specs.declared.state.OpenCall.TheVariants.{Gathers, Fails}
 use Rattle.hub_model.specs.declared.verdict.Verdict.{Verdict}
-use Rattle.hub_model.specs.declared.verdict.Verdict.TheVariants as verdict
-use Rattle.client_model.specs.Asks.{copy_of}
 use Rattle.link_model.specs.Asked.{Asked, number_of}
 use Rattle.link_model.proofs.Copies.{copy_by, copy_is, copy_looked_at, copy_taken, copy_bytes, errno_of, fault_taken}
 use Rattle.link_model.proofs.Server.{frame_comes, moves_to, call_put, call_there}
-use Rattle.link_model.proofs.Stage.{server_at, connection_at, calls_at, copy_frame}
+use Rattle.link_model.proofs.Stage.{server_at, connection_at, copy_frame}
 
 -- the connection while an ask is out
 abbrev waiting : Asked → List (List ℕ) → Connection

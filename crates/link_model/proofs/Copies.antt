@@ -1,6 +1,6 @@
 -- The copy that answers an ask is one that the server takes.
-use Rattle.std.proofs.Common.{◌≡◌, ℕ, zero, suc, ◌<◌, ◌==◌, ◌&&◌, ◌||◌, Bool, true, false, List, [], ◌∷◌, ◌++◌, length, Option, Some, None, Result, Ok, Err, refl, sym, ap, subst, ◌∙◌, arith, cond}
-use Rattle.std.specs.Prelude.{slice_get, nat_le, nat_lt, not, position, take}
+use Rattle.std.proofs.Common.{◌≡◌, ℕ, zero, suc, ◌<◌, ◌==◌, Bool, true, false, List, [], ◌∷◌, ◌++◌, length, Option, Some, None, Result, Ok, Err, refl, subst, arith, cond}
+use Rattle.std.specs.Prelude.{slice_get, nat_lt}
 use Rattle.std.specs.List.{AllByRecursion, list_any}
 use Rattle.std.specs.FinMap.{get}
 use Rattle.std.proofs.lemmas.Bool.Decides.{nat_tests}
@@ -17,7 +17,6 @@ use Rattle.sp_copy.specs.Reading.{gives, given, read_from, read_of}
 use Rattle.sp_copy.specs.declared.fault.CopyFault.{CopyFault}
 use Rattle.sp_copy.specs.declared.fault.CopyFault.TheVariants.{Fault, NoEnd, NoMemory}
 use Rattle.sp_copy.specs.declared.part.Part.{Part}
-use Rattle.sp_copy.proofs.Pieces.{read_fits}
 use Rattle.sp_frames.specs.declared.frame.Body.{Body}
 use Rattle.kern_model.specs.State.{State}
 use Rattle.kern_model.specs.declared.operation.Ins.TheVariants as ins

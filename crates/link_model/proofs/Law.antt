@@ -1,13 +1,10 @@
 -- A call that is asked over a whole link is answered as it would be at once.
-use Rattle.std.proofs.Common.{◌≡◌, ◌⊎◌, inl, inr, ℕ, ◌+◌, Bool, true, false, List, [], ◌∷◌, ◌++◌, length, Option, Some, None, refl, sym, ap, subst, ◌∙◌, cond}
-use Rattle.std.specs.Prelude.{not}
+use Rattle.std.proofs.Common.{◌≡◌, ◌⊎◌, inl, inr, ℕ, ◌+◌, Bool, true, false, List, [], ◌∷◌, length, Option, Some, refl, sym, ap, subst, ◌∙◌}
 use Rattle.std.specs.Ordering.{nat_cmp}
 use Rattle.std.specs.FinMap.{FinMap, get, insert}
 use Rattle.sp_base.specs.declared.names.Answer.{Answer}
-use Rattle.sp_copy.specs.Delivering.{answer_after, put_pieces}
+use Rattle.sp_copy.specs.Delivering.{answer_after}
 use Rattle.sp_copy.specs.declared.delivery.Delivery.{Delivery}
-use Rattle.sp_copy.specs.declared.part.Part.{Part}
-use Rattle.kern_model.specs.Journal.{state_after}
 use Rattle.kern_model.specs.Step.{Step}
 use Rattle.kern_model.specs.declared.journal.Entry.{Entry}
 use Rattle.kern_model.specs.declared.journal.Who.TheVariants.{Request}
@@ -16,17 +13,18 @@ use Rattle.hub_model.specs.Frames.{answer_at}
 use Rattle.hub_model.specs.State.{Connection, Machine}
 use Rattle.hub_model.proofs.Entries.{nexts}
 use Rattle.tables.proofs.Entries.{again, back}
-use Rattle.client_model.specs.Requests.{is_busy, start_by, start_now}
-use Rattle.client_model.specs.State.{Client, Played}
+use Rattle.tables.proofs.Maps.{get_put}
+use Rattle.client_model.specs.Requests.{start_by}
+use Rattle.client_model.specs.State.{Played}
 use Rattle.client_model.specs.declared.event.Reply.TheVariants as reply
 use Rattle.client_model.specs.declared.request.Ending.{Ending}
-use Rattle.link_model.specs.Asked.{Asked, IsPerformed, IsAnswered, IsFine, Grows, number_of, start_of, after, journal_before, entry_of, direct_of, collected, idle}
+use Rattle.link_model.specs.Asked.{Asked, IsPerformed, IsAnswered, IsFine, IsWholeAgain, Grows, number_of, start_of, after, journal_before, entry_of, direct_of, collected, after_collecting, idle}
 use Rattle.link_model.specs.Direct.{reads, seen}
 use Rattle.link_model.specs.Link.{Link, made, carried}
 use Rattle.link_model.specs.declared.moves.Move.{Move}
-use Rattle.link_model.proofs.Caller.{none_collected, answer_collected}
-use Rattle.link_model.proofs.Stage.{Stage, Sent, Held, Asking, Copying, Failing, Telling, Told, Stands, Fact, look, shape, client_at, server_at, connection_at, delivered}
-use Rattle.link_model.proofs.Transitions.{Goes, move_goes}
+use Rattle.link_model.proofs.Caller.{none_collected, answer_plays}
+use Rattle.link_model.proofs.Stage.{Stage, Sent, Held, Asking, Copying, Failing, Telling, Told, Stands, Fact, look, shape, delivered}
+use Rattle.link_model.proofs.Transitions.{move_goes}
 
 -- ---- the start
 
@@ -99,7 +97,7 @@ told_answered a indexes e now fact =
     record {
       answer = answer_after now.whole answer;
       mem = now.mem;
-      got = answer_collected a now indexes [] answer;
+      got = ap (λ (p : Played). p.0) (answer_plays a now indexes [] answer);
       direct = seen_at_once a e fact.entry ∙ ap (λ (d : Delivery). Some (answer_after d.whole answer, d.mem)) (sym fact.whole);
       performed = record { entry = e; next = fact.entry; grown = refl };
       place = kept_place now.whole answer;
@@ -134,3 +132,38 @@ journal_grows a moves move =
     let goes = move_goes a h.stage h.fact move in
     subst (λ (l : Link). Grows a l.server.journal (made l move).server (made l move).link.server.journal) (sym h.is)
     (subst (λ (l : Link). Grows a (look a h.stage).journal (made (shape a h.stage) move).server l.server.journal) (sym goes.leads.is) goes.leads.grows)
+
+-- ---- afterwards
+
+-- a call that was told leaves a whole link
+told_whole : (a : Asked) (indexes : List ℕ) (e : Entry) (now : Delivery) → IsWholeAgain a (after_collecting a (shape a (Told indexes e now)))
+told_whole a indexes e now =
+    let link = shape a (Told indexes e now) in
+    let answer = answer_at e.outcome (length (journal_before a)) in
+    subst (λ (p : Played). IsWholeAgain a (record link { client = p.1 })) (sym (answer_plays a now indexes [] answer)) (λ free. (record {
+      ready = refl;
+      goes_on = refl;
+      free = free;
+      sent = refl;
+      serves = refl;
+      pid = a.whole.pid;
+      idle = get_put a.link.server.connections a.link.conn.0 (idle a.whole.pid (a.link.client.last + 1));
+    }, refl))
+
+unanswered : (a : Asked) (s : Stage) → collected a (shape a s) ≡ reply.NotYet [] → IsAnswered a (shape a s) → ⊥
+unanswered a s none answered = let k = sym none ∙ answered.got in cc
+
+whole_at_stage : (a : Asked) (s : Stage) → Fact a s → IsAnswered a (shape a s) → IsWholeAgain a (after_collecting a (shape a s))
+whole_at_stage a (Told indexes e now) fact answered = told_whole a indexes e now
+whole_at_stage a Sent fact answered = absurd (unanswered a Sent (none_collected a _ _ _) answered)
+whole_at_stage a (Held got indexes) fact answered = absurd (unanswered a (Held got indexes) (none_collected a _ _ _) answered)
+whole_at_stage a (Asking got indexes need) fact answered = absurd (unanswered a (Asking got indexes need) (none_collected a _ _ _) answered)
+whole_at_stage a (Copying got indexes need) fact answered = absurd (unanswered a (Copying got indexes need) (none_collected a _ _ _) answered)
+whole_at_stage a (Failing indexes why) fact answered = absurd (unanswered a (Failing indexes why) (none_collected a _ _ _) answered)
+whole_at_stage a (Telling indexes e now index todo) fact answered = absurd (unanswered a (Telling indexes e now index todo) (none_collected a _ _ _) answered)
+
+-- once the call is answered and collected, the link is whole again
+pub whole_again : (a : Asked) (moves : List Move) → IsAnswered a (after a moves) → IsWholeAgain a (after_collecting a (after a moves))
+whole_again a moves =
+    let h = stands a moves in
+    subst (λ (l : Link). IsAnswered a l → IsWholeAgain a (after_collecting a l)) (sym h.is) (whole_at_stage a h.stage h.fact)

@@ -1,30 +1,26 @@
 -- What a call writes lies inside its ranges.
-use Rattle.std.specs.Prelude.{nat_le, nat_lt, not, max, min, if◌then◌else◌}
+use Rattle.std.specs.Prelude.{if◌then◌else◌}
 use Rattle.std.specs.List.{AllByRecursion, list_any}
 use Rattle.std.specs.Option.{option_to_list}
-use Rattle.std.proofs.Common.{◌≡◌, ℕ, ◌+◌, ◌≤◌, Bool, true, false, ◌&&◌, ◌||◌, ◌==◌, List, [], ◌∷◌, ◌++◌, length, take, drop, Option, Some, None, refl, ap, arith, subst}
+use Rattle.std.proofs.Common.{◌≡◌, ℕ, ◌≤◌, Bool, true, false, ◌||◌, ◌==◌, List, [], ◌∷◌, ◌++◌, length, Option, Some, None, refl, arith}
 use Rattle.std.proofs.lemmas.Bool.Decides.{nat_tests}
 use Rattle.std.proofs.lemmas.List.{places}
 use Rattle.sp_base.specs.Needs.{outs_of, range_of, transfer_of}
-use Rattle.sp_base.specs.Table.{at, lowest_unused}
 use Rattle.sp_base.specs.declared.call.Call.{Call}
 use Rattle.sp_base.specs.declared.call.Call.TheVariants as call
 use Rattle.sp_base.specs.declared.errno.Errno.{Errno}
 use Rattle.sp_base.specs.declared.errno.Errno.TheVariants.{Enosys}
 use Rattle.sp_base.specs.declared.need.Range.{Range}
 use Rattle.kern_model.specs.Act.{act, act_call, first, second}
-use Rattle.kern_model.specs.Descriptors.{with_open, with_open_file, duplicate, act_close, act_dup, act_dup2, act_fcntl}
-use Rattle.kern_model.specs.Files.{open_found, open_missing, open_walked, act_open, bytes_from, read_node, read_file, act_read, pread_file, act_pread, write_node, write_file, act_write, pwrite_file, act_pwrite, seek_file, act_lseek, truncate_file, act_ftruncate, stat_bytes, stat_file, act_fstat, act_stat}
-use Rattle.kern_model.specs.Links.{act_link, act_unlink, act_mkdir, act_rmdir, act_chdir, rename_to_missing, rename_over, rename_to_found, rename_to, act_rename}
-use Rattle.kern_model.specs.Outcome.{success}
-use Rattle.kern_model.specs.State.{State, rows_of, bytes_of}
+use Rattle.kern_model.specs.Descriptors.{act_close, act_dup, act_dup2, act_fcntl}
+use Rattle.kern_model.specs.Files.{open_walked, act_open, bytes_from, read_node, read_file, act_read, pread_file, act_pread, write_node, write_file, act_write, pwrite_file, act_pwrite, seek_file, act_lseek, truncate_file, act_ftruncate, stat_bytes, stat_file, act_fstat, act_stat}
+use Rattle.kern_model.specs.Links.{act_link, act_unlink, act_mkdir, act_rmdir, act_chdir, rename_to, act_rename}
+use Rattle.kern_model.specs.State.{State}
 use Rattle.kern_model.specs.Step.{Step, failed, answered, piece_at, wrote, or_fail, with_found, with_missing}
-use Rattle.kern_model.specs.Walk.{walk}
 use Rattle.kern_model.specs.declared.node.Access.{Access}
 use Rattle.kern_model.specs.declared.node.Object.{Object}
 use Rattle.kern_model.specs.declared.node.Object.TheVariants as object
 use Rattle.kern_model.specs.declared.node.OpenFile.{OpenFile}
-use Rattle.kern_model.specs.declared.node.Row.{Row}
 use Rattle.kern_model.specs.declared.operation.Ins.{Ins}
 use Rattle.kern_model.specs.declared.operation.Ins.TheVariants.{Given, Fault}
 use Rattle.kern_model.specs.declared.operation.Op.TheVariants.{Sys}
@@ -33,7 +29,7 @@ use Rattle.kern_model.specs.declared.outcome.Outcome.{Outcome}
 use Rattle.kern_model.specs.declared.walk.Walked.{Walked}
 use Rattle.kern_model.specs.declared.walk.Walked.TheVariants.{Found, Missing, Faulty}
 use Rattle.kern_model.specs.Name.{Path}
-use Rattle.kern_model.proofs.Holds.{Holds, HoldsOfErrors, holds_is, holds_failed, holds_answered, holds_wrote, holds_if, holds_fail_if, holds_or_fail, holds_found, holds_missing}
+use Rattle.kern_model.proofs.Holds.{Holds, HoldsOfErrors, holds_is, holds_wrote, holds_if, holds_or_fail, holds_found, holds_missing}
 use Rattle.client_model.specs.Fitness.{lies_inside}
 
 -- a piece lies inside one of some ranges

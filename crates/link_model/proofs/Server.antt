@@ -1,36 +1,30 @@
 -- What the server does at each stage of a call.
-use Rattle.std.proofs.Common.{◌≡◌, ◌≢◌, inl, inr, ℕ, ◌+◌, ◌==◌, ◌&&◌, ◌||◌, Bool, true, false, List, [], ◌∷◌, ◌++◌, length, Option, Some, None, Result, Ok, Err, refl, sym, ap, subst, ◌∙◌, arith, cond}
-use Rattle.std.specs.Prelude.{slice_get, nat_le, nat_lt, not, IfSome}
-use Rattle.std.specs.List.{AllByRecursion, list_any}
+use Rattle.std.proofs.Common.{◌≡◌, ◌≢◌, inl, inr, ℕ, ◌+◌, Bool, true, false, List, [], ◌∷◌, ◌++◌, length, Option, Some, None, refl, sym, ap, subst, ◌∙◌, arith, cond}
+use Rattle.std.specs.Prelude.{slice_get, nat_le, IfSome}
 use Rattle.std.specs.Ordering.{nat_cmp}
-use Rattle.std.specs.FinMap.{FinMap, get, insert, remove, empty, len, len-empty, get-empty, same_map, nat_cmp-IsAntisymmetric}
+use Rattle.std.specs.FinMap.{FinMap, get, insert, remove, empty, len-empty, get-empty, same_map, nat_cmp-IsAntisymmetric}
 use Rattle.std.specs.Cmp.{nat_cmp_total}
 use Rattle.std.proofs.lemmas.Bool.Decides.{nat_tests}
-use Rattle.sp_base.specs.Call.{call_number, call_words, call_of, wanted_words}
+use Rattle.sp_base.specs.Call.{call_number, call_words, wanted_words}
 use Rattle.sp_base.specs.Needs.{needs_of}
-use Rattle.sp_base.specs.declared.call.Call.{Call}
-use Rattle.sp_base.specs.declared.errno.Errno.{Errno}
 use Rattle.sp_base.specs.declared.names.ReqNo.{ReqNo}
 use Rattle.sp_base.specs.declared.need.Need.{Need}
 use Rattle.sp_base.proofs.CallRows.{call_of-parts, call-count}
 use Rattle.sp_frames.specs.declared.frame.Frame.{Frame}
-use Rattle.kern_model.specs.Journal.{state_after, next_entry}
+use Rattle.kern_model.specs.Journal.{state_after}
 use Rattle.kern_model.specs.State.{State}
 use Rattle.kern_model.specs.declared.journal.Entry.{Entry}
-use Rattle.kern_model.specs.declared.journal.Who.TheVariants.{Request}
-use Rattle.kern_model.specs.declared.operation.Ins.{Ins}
-use Rattle.kern_model.specs.declared.operation.Op.TheVariants.{Sys}
 use Rattle.hub_model.specs.Machine.{played}
 use Rattle.hub_model.specs.Requests.{frame_at, frame_by}
-use Rattle.hub_model.specs.State.{Connection, Machine, Played, with_connection}
-use Rattle.hub_model.specs.Verdict.{verdict_of, is_other_count, is_later_call}
+use Rattle.hub_model.specs.State.{Connection, Played, with_connection}
+use Rattle.hub_model.specs.Verdict.{verdict_of, is_other_count}
 use Rattle.hub_model.specs.Frames.{ask, told, is_end}
 use Rattle.hub_model.specs.Work.{work_at, work_number, work_call, gather, performed, take_at, take_from}
 use Rattle.hub_model.specs.declared.event.Event.TheVariants as event
 use Rattle.hub_model.specs.declared.event.Reply.{Reply}
 use Rattle.hub_model.specs.declared.event.Reply.TheVariants as reply
 use Rattle.hub_model.specs.declared.state.OpenCall.{OpenCall}
-use Rattle.hub_model.specs.declared.state.OpenCall.TheVariants.{Gathers, Fails, Answers}
+use Rattle.hub_model.specs.declared.state.OpenCall.TheVariants.{Gathers, Answers}
 use Rattle.hub_model.specs.declared.verdict.Verdict.{Verdict}
 use Rattle.hub_model.specs.declared.verdict.Verdict.TheVariants as verdict
 use Rattle.tables.proofs.Entries.{again}

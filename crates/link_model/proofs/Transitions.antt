@@ -1,55 +1,41 @@
 -- Whatever is moved at a stage of a call leads to a stage.
-use Rattle.std.proofs.Common.{◌≡◌, ◌≢◌, inl, inr, ℕ, ◌+◌, ◌<◌, true, false, List, [], ◌∷◌, ◌++◌, length, drop, Option, Some, None, Result, Ok, Err, refl, sym, ap, subst, ◌∙◌, arith}
-use Rattle.std.specs.Prelude.{slice_get, IsTrue}
-use Rattle.std.specs.List.{AllByRecursion}
+use Rattle.std.proofs.Common.{◌≡◌, inl, inr, ℕ, ◌+◌, ◌<◌, true, List, [], ◌∷◌, ◌++◌, length, drop, Option, Some, None, Result, Ok, Err, refl, sym, ap, subst, ◌∙◌, arith}
+use Rattle.std.specs.Prelude.{slice_get}
 use Rattle.std.specs.Ordering.{nat_cmp}
 use Rattle.std.specs.FinMap.{get, get-empty}
 use Rattle.std.proofs.lemmas.List.{append-nil}
-use Rattle.sp_base.specs.Needs.{needs_of, outs_of}
+use Rattle.sp_base.specs.Needs.{needs_of}
 use Rattle.sp_base.specs.declared.errno.Errno.{Errno}
 use Rattle.sp_base.specs.declared.names.ReqNo.{ReqNo}
 use Rattle.sp_base.specs.declared.need.Need.{Need}
-use Rattle.sp_base.specs.declared.need.Need.TheVariants.{Bytes, Text}
 use Rattle.sp_copy.specs.Delivering.{put_piece}
 use Rattle.sp_copy.specs.Gathering.{gather, gathered, with_first}
 use Rattle.sp_copy.specs.Reading.{read_of}
-use Rattle.sp_copy.specs.declared.delivery.Delivery.{Delivery}
 use Rattle.sp_copy.specs.declared.fault.CopyFault.{CopyFault}
 use Rattle.sp_copy.proofs.Pieces.{after_pieces, need_there, need_gone, one_gathered}
-use Rattle.sp_frames.specs.declared.frame.Frame.{Frame}
-use Rattle.kern_model.specs.Journal.{state_after, next_entry}
+use Rattle.kern_model.specs.Journal.{state_after}
 use Rattle.kern_model.specs.declared.journal.Entry.{Entry}
 use Rattle.kern_model.specs.declared.journal.Who.TheVariants.{Request}
-use Rattle.kern_model.specs.declared.operation.Ins.{Ins}
 use Rattle.kern_model.specs.declared.operation.Ins.TheVariants.{Given, Fault}
 use Rattle.kern_model.specs.declared.operation.Op.TheVariants.{Sys}
-use Rattle.kern_model.specs.declared.outcome.OutPiece.{OutPiece}
-use Rattle.hub_model.specs.Frames.{ask, ask_body, answer_at, is_end, puts_from}
-use Rattle.hub_model.specs.State as server
-use Rattle.hub_model.specs.State.{Machine}
-use Rattle.hub_model.specs.Work.{work_number, work_call, gather as gathers, performed, take_from}
+use Rattle.hub_model.specs.Work.{work_call}
 use Rattle.hub_model.specs.declared.event.Reply.{Reply}
 use Rattle.hub_model.specs.declared.event.Reply.TheVariants as reply
 use Rattle.hub_model.specs.declared.state.OpenCall.{OpenCall}
-use Rattle.hub_model.specs.declared.state.OpenCall.TheVariants.{Gathers, Fails, Answers}
+use Rattle.hub_model.specs.declared.state.OpenCall.TheVariants.{Gathers, Answers}
 use Rattle.hub_model.proofs.Entries.{nexts}
 use Rattle.hub_model.proofs.Keeps.{all_map, all_push}
 use Rattle.tables.proofs.Maps.{same_or_not}
-use Rattle.client_model.specs.Machine.{played as client_played}
-use Rattle.client_model.specs.State as client
-use Rattle.client_model.specs.declared.event.Event.TheVariants as client_event
-use Rattle.link_model.specs.Asked.{Asked, IsFine, is_taken as is_taken_by_server, number_of, journal_before, entry_of}
-use Rattle.link_model.specs.Direct.{ins_of, reads, pieces_of}
-use Rattle.link_model.specs.Link.{Link, Made, made, server_plays, client_plays, server_hands}
+use Rattle.link_model.specs.Asked.{Asked, number_of, journal_before, entry_of}
+use Rattle.link_model.specs.Direct.{ins_of, reads}
+use Rattle.link_model.specs.Link.{Made, made}
 use Rattle.link_model.specs.declared.moves.Move.{Move}
 use Rattle.link_model.specs.declared.moves.Move.TheVariants.{ToServer, ToClient, Work}
-use Rattle.link_model.proofs.Copied.{copy_comes, fault_comes}
-use Rattle.link_model.proofs.Caller.{ask_comes, put_comes, answer_comes}
 use Rattle.link_model.proofs.Copies.{errno_of, fault_is}
-use Rattle.link_model.proofs.Ranges.{IsInside, writes_inside}
+use Rattle.link_model.proofs.Ranges.{writes_inside}
 use Rattle.link_model.proofs.Leads.{Leads, Rests, connection_of, telling, stays, call_leads, copy_leads, fault_leads, ask_leads, put_leads, answer_leads, none_leads, no_call_leads, wait_leads, next_leads, failing_leads, failing_waits, held_leads, held_waits}
-use Rattle.link_model.proofs.Server.{no_other, call_comes, call_asks, call_waits, none_works, call_acts, is_taken, is_worked, call_there, frame_goes, end_goes}
-use Rattle.link_model.proofs.Stage.{Stage, Sent, Held, Asking, Copying, Failing, Telling, Told, Stands, Fact, IsFront, AreBelow, look, link_by, shape, before, untouched, connection_at, calls_at, answer_frame}
+use Rattle.link_model.proofs.Server.{no_other}
+use Rattle.link_model.proofs.Stage.{Stage, Sent, Held, Asking, Copying, Failing, Telling, Told, Fact, IsFront, AreBelow, look, shape, calls_at}
 
 -- a move leads from a stage to another, and what holds there holds
 pub record Goes (a : Asked) (s : Stage) (m : Made) : Type 0 where

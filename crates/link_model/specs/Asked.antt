@@ -1,5 +1,5 @@
 -- A call that is asked over a whole link, and what becomes of it.
-use Rattle.std.specs.Prelude.{◌≡◌, ◌⊎◌, ℕ, ◌+◌, Bool, true, false, IsTrue, IfSome, List, [], ◌∷◌, ◌++◌, length, Option, None, Some}
+use Rattle.std.specs.Prelude.{◌≡◌, ℕ, ◌+◌, Bool, true, false, IsTrue, IfSome, List, [], ◌∷◌, ◌++◌, length, Option, None, Some}
 use Rattle.std.specs.FinMap.{get, empty}
 use Rattle.sp_base.specs.Call.{call_number, IsProper}
 use Rattle.sp_base.specs.declared.call.Call.{Call}
@@ -80,6 +80,10 @@ direct_of asked = direct (state_after (journal_before asked)) (length (journal_b
 abbrev pub collected : Asked → Link → ClientReply
 collected asked link = (client.played link.client (client_event.Collect (number_of asked))).0
 
+-- the link once the call was collected
+abbrev pub after_collecting : Asked → Link → Link
+after_collecting asked link = record link { client = (client.played link.client (client_event.Collect (number_of asked))).1 }
+
 -- the journal has the call's entry, and no other one, behind those before it
 pub record IsPerformed (asked : Asked) (journal : List Entry) : Type 0 where
   pub entry : Entry
@@ -94,6 +98,10 @@ pub record IsAnswered (asked : Asked) (link : Link) : Type 0 where
   pub direct : direct_of asked ≡ Some (answer, mem)
   pub performed : IsPerformed asked link.server.journal
   pub place : answer.place.0 ≡ length (journal_before asked)
+
+-- the link is whole again, for the same process, where its client may start another call
+abbrev pub IsWholeAgain : Asked → Link → Type 0
+IsWholeAgain asked link = is_busy link.client ≡ false → (whole : IsWhole link) × (whole.pid ≡ asked.whole.pid)
 
 -- the journal has the call's entry more exactly where the server answers that it is done, and had none before; else it is the same
 abbrev pub Grows : Asked → List Entry → Option ServerReply → List Entry → Type 0

@@ -2,7 +2,6 @@
 use Rattle.std.specs.Prelude.{List, [], ◌∷◌, Option, None, Some}
 use Rattle.std.specs.Prelude.{true}
 use Rattle.sp_base.specs.declared.names.ConnNo.{ConnNo}
-use Rattle.sp_frames.specs.declared.frame.Frame.{Frame}
 use Rattle.hub_model.specs.Machine as server
 use Rattle.hub_model.specs.State.{Machine}
 use Rattle.hub_model.specs.State as server_state

@@ -1,7 +1,7 @@
 //! The law of one call through frames: a function that does nothing, and whose contract is the law.
 ghost use Rattle.std.specs.Prelude.{◌≡◌, ◌⊎◌, ◌++◌, IsSome, List, []};
 ghost use Rattle.client_model.specs.declared.event.Reply.{Reply};
-ghost use Rattle.link_model.specs.Asked.{Asked, Grows, IsAnswered, IsFine, IsPerformed, after, collected, direct_of, journal_before, number_of, start_of};
+ghost use Rattle.link_model.specs.Asked.{Asked, Grows, IsAnswered, IsFine, IsPerformed, IsWholeAgain, after, after_collecting, collected, direct_of, journal_before, number_of, start_of};
 ghost use Rattle.link_model.specs.Link.{made};
 ghost use Rattle.link_model.specs.declared.moves.Move.{Move};
 
@@ -14,18 +14,22 @@ pub fn calls_by_frames_are_direct()
     // the journal grows as the call is done, and else never
     ensures grows { (asked : Asked) (moves : List Move) (move : Move)
         → let link = after asked moves in
-          let next = made link move in
-          Grows asked link.server.journal next.server next.link.server.journal }
+        let next = made link move in
+        Grows asked link.server.journal next.server next.link.server.journal }
     // asking by frames is gathering: the call has one entry at the most, and it is of what the call reads of its caller's memory
     ensures asks { (asked : Asked) (moves : List Move)
         → let journal = (after asked moves).server.journal in
-          (journal ≡ journal_before asked) ⊎ IsPerformed asked journal }
+        (journal ≡ journal_before asked) ⊎ IsPerformed asked journal }
     // putting by frames is delivering: the call isn't answered yet, or its caller sees what it would see at once
     ensures puts { (asked : Asked) (moves : List Move)
         → let link = after asked moves in
-          (collected asked link ≡ Reply.NotYet []) ⊎ IsAnswered asked link }
+        (collected asked link ≡ Reply.NotYet []) ⊎ IsAnswered asked link }
     // the call can always be brought to its answer, where the kernel is ready for it
     ensures ends { (asked : Asked) (moves : List Move)
         → IsSome (direct_of asked)
         → (more : List Move) × IsAnswered asked (after asked (moves ++ more)) }
+    // once it is collected, the link is whole again
+    ensures whole { (asked : Asked) (moves : List Move)
+        → IsAnswered asked (after asked moves)
+        → IsWholeAgain asked (after_collecting asked (after asked moves)) }
 {}

@@ -1,7 +1,7 @@
 use Rattle.std.proofs.Common.{ap}
 use Rattle.client_model.specs.State.{Played}
 use Rattle.link_model.proofs.Ends.{moves_end}
-use Rattle.link_model.proofs.Law.{started, moves_fine, journal_grows, journal_stands, answer_stands}
+use Rattle.link_model.proofs.Law.{started, moves_fine, journal_grows, journal_stands, answer_stands, whole_again}
 use Rattle.link_model.proofs.laws.calls_by_frames_are_direct.Goals as goal
 
 pub returns-clause-starts : goal.returns-clause-starts
@@ -21,3 +21,6 @@ returns-clause-puts c = answer_stands
 
 pub returns-clause-ends : goal.returns-clause-ends
 returns-clause-ends c = moves_end
+
+pub returns-clause-whole : goal.returns-clause-whole
+returns-clause-whole c = whole_again
