@@ -1,3 +1,4 @@
 pub mod Direct
 pub mod Link
 pub mod Asked
+pub mod Greeting

@@ -1,9 +1,11 @@
-//! The law of one call through frames: a function that does nothing, and whose contract is the law.
-ghost use Rattle.std.specs.Prelude.{◌≡◌, ◌⊎◌, ◌++◌, IsSome, List, []};
+//! The laws of a link: functions that do nothing, and whose contracts are the laws.
+ghost use Rattle.std.specs.Prelude.{◌≡◌, ◌⊎◌, ◌∷◌, ◌++◌, IsSome, List, []};
 ghost use Rattle.client_model.specs.declared.event.Reply.{Reply};
 ghost use Rattle.link_model.specs.Asked.{Asked, Grows, IsAnswered, IsFine, IsPerformed, IsWholeAgain, after, after_collecting, collected, direct_of, journal_before, number_of, start_of};
-ghost use Rattle.link_model.specs.Link.{made};
+ghost use Rattle.link_model.specs.Greeting.{Greeting, IsGreeted, opened};
+ghost use Rattle.link_model.specs.Link.{carried, made};
 ghost use Rattle.link_model.specs.declared.moves.Move.{Move};
+ghost use Rattle.link_model.specs.declared.moves.Move.TheVariants.{ToClient, ToServer};
 
 /// A call that is asked over a whole link gives what it gives where it is made of the kernel at once, with
 /// its caller's memory in hand, whatever moves are made on the link.
@@ -32,4 +34,9 @@ pub fn calls_by_frames_are_direct()
     ensures whole { (asked : Asked) (moves : List Move)
         → IsAnswered asked (after asked moves)
         → IsWholeAgain asked (after_collecting asked (after asked moves)) }
+{}
+
+/// A client that greets a server over a new connection has a whole link once its frame and the response were carried over.
+pub fn greetings_make_links_whole()
+    ensures { (greeting : Greeting) → IsGreeted greeting (carried (opened greeting) (ToServer ∷ ToClient ∷ [])) }
 {}

@@ -4,5 +4,5 @@
 mod laws;
 mod moves;
 
-pub use laws::calls_by_frames_are_direct;
+pub use laws::{calls_by_frames_are_direct, greetings_make_links_whole};
 pub use moves::Move;
