@@ -1,17 +1,14 @@
 -- A greeting makes a link whole.
-use Rattle.std.proofs.Common.{◌≡◌, ℕ, ◌+◌, Bool, true, false, List, [], ◌∷◌, ◌++◌, Option, Some, None, refl, sym, ap, subst, ◌∙◌, cond}
-use Rattle.std.specs.Prelude.{nat_le, ◌==◌, ◌||◌, is_some, IsSome}
+use Rattle.std.proofs.Common.{◌≡◌, ℕ, ◌+◌, true, false, List, [], ◌∷◌, ◌++◌, Option, Some, None, refl, sym, ap, subst, ◌∙◌, cond}
+use Rattle.std.specs.Prelude.{is_some, IsSome}
 use Rattle.std.specs.Ordering.{nat_cmp}
 use Rattle.std.specs.Cmp.{nat_cmp_total}
-use Rattle.std.specs.FinMap.{FinMap, get, insert, empty, len, len-insert, len-empty, get-empty}
+use Rattle.std.specs.FinMap.{FinMap, insert, empty, len, len-insert, len-empty, get-empty}
 use Rattle.sp_base.specs.Table.{lowest_unused}
 use Rattle.sp_base.specs.declared.limits.TheConstants.{FIRST_PROCESS}
 use Rattle.sp_base.specs.declared.names.ConnNo.{ConnNo}
 use Rattle.sp_frames.specs.declared.version.Version.{Version}
-use Rattle.sp_frames.specs.declared.frame.Frame.{Frame}
-use Rattle.kern_model.specs.Journal.{state_after, next_entry, entry_of_step}
-use Rattle.kern_model.specs.State.{State}
-use Rattle.kern_model.specs.Step.{Step, or_fail, answered}
+use Rattle.kern_model.specs.Journal.{state_after, next_entry}
 use Rattle.kern_model.specs.Outcome.{success}
 use Rattle.kern_model.specs.declared.journal.Entry.{Entry}
 use Rattle.kern_model.specs.declared.journal.Who.TheVariants.{Request}
@@ -20,7 +17,7 @@ use Rattle.hub_model.specs.Ends.{nothing_read}
 use Rattle.hub_model.specs.Frames.{hello}
 use Rattle.hub_model.specs.Machine.{played, is_new}
 use Rattle.hub_model.specs.Requests.{no_process, frame_at, frame_by, attach}
-use Rattle.hub_model.specs.State.{Connection, Machine, Played, fresh_connection, with_connection}
+use Rattle.hub_model.specs.State.{Connection, Machine, Played, fresh_connection}
 use Rattle.hub_model.specs.Verdict.{verdict_of}
 use Rattle.hub_model.specs.Work.{take_at}
 use Rattle.hub_model.specs.declared.event.Event.TheVariants as event

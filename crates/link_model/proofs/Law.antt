@@ -46,8 +46,8 @@ served a =
     ∙ ap (λ (b : Bool). record (shape a Sent).server { halted = b }) a.whole.serves
 
 -- the link stands at the first stage
-begins : (a : Asked) → Stands a (after a [])
-begins a = record { stage = Sent; is = ap (λ (p : Played). record a.link { client = p.1 }) (started a) ∙ ap (λ (m : Machine). record (shape a Sent) { server = m }) (served a); fact = tt }
+pub begins : (a : Asked) → after a [] ≡ shape a Sent
+begins a = ap (λ (p : Played). record a.link { client = p.1 }) (started a) ∙ ap (λ (m : Machine). record (shape a Sent) { server = m }) (served a)
 
 -- ---- moves
 
@@ -59,7 +59,7 @@ carries a link (move ∷ moves) h =
 
 -- whatever is moved, the link stands at a stage
 pub stands : (a : Asked) (moves : List Move) → Stands a (after a moves)
-stands a moves = carries a (after a []) moves (begins a)
+stands a moves = carries a (after a []) moves (record { stage = Sent; is = begins a; fact = tt })
 
 -- ---- what is told of the stages
 
@@ -140,15 +140,18 @@ told_whole : (a : Asked) (indexes : List ℕ) (e : Entry) (now : Delivery) → I
 told_whole a indexes e now =
     let link = shape a (Told indexes e now) in
     let answer = answer_at e.outcome (length (journal_before a)) in
-    subst (λ (p : Played). IsWholeAgain a (record link { client = p.1 })) (sym (answer_plays a now indexes [] answer)) (λ free. (record {
-      ready = refl;
-      goes_on = refl;
-      free = free;
-      sent = refl;
-      serves = refl;
-      pid = a.whole.pid;
-      idle = get_put a.link.server.connections a.link.conn.0 (idle a.whole.pid (a.link.client.last + 1));
-    }, refl))
+    subst (λ (p : Played). IsWholeAgain a (record link { client = p.1 })) (sym (answer_plays a now indexes [] answer)) (λ free. (
+      record {
+        ready = refl;
+        goes_on = refl;
+        free = free;
+        sent = refl;
+        serves = refl;
+        pid = a.whole.pid;
+        idle = get_put a.link.server.connections a.link.conn.0 (idle a.whole.pid (a.link.client.last + 1));
+      },
+      refl,
+    ))
 
 unanswered : (a : Asked) (s : Stage) → collected a (shape a s) ≡ reply.NotYet [] → IsAnswered a (shape a s) → ⊥
 unanswered a s none answered = let k = sym none ∙ answered.got in cc

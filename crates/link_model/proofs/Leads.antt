@@ -1,7 +1,8 @@
 -- From which stage of a call a move leads to which.
 use Rattle.std.proofs.Common.{◌≡◌, ℕ, ◌+◌, true, false, List, [], ◌∷◌, ◌++◌, length, Option, Some, None, Ok, Err, refl, sym, ap, subst, ◌∙◌}
 use Rattle.std.specs.Prelude.{slice_get, IsTrue}
-use Rattle.std.specs.FinMap.{get}
+use Rattle.std.specs.Ordering.{nat_cmp}
+use Rattle.std.specs.FinMap.{get, get-empty}
 use Rattle.sp_base.specs.Needs.{needs_of, outs_of}
 use Rattle.sp_base.specs.declared.errno.Errno.{Errno}
 use Rattle.sp_base.specs.declared.names.ReqNo.{ReqNo}
@@ -33,6 +34,7 @@ use Rattle.client_model.specs.declared.event.Event.TheVariants as client_event
 use Rattle.link_model.specs.Asked.{Asked, IsFine, IsPerformed, Grows, is_taken as is_taken_by_server, number_of, journal_before, entry_of}
 use Rattle.link_model.specs.Direct.{reads}
 use Rattle.link_model.specs.Link.{Link, Made, made, server_plays, client_plays, server_hands}
+use Rattle.link_model.specs.declared.moves.Move.{Move}
 use Rattle.link_model.specs.declared.moves.Move.TheVariants.{ToServer, ToClient, Work}
 use Rattle.link_model.proofs.Copied.{copy_comes, fault_comes}
 use Rattle.link_model.proofs.Caller.{ask_comes, put_comes, answer_comes}
@@ -226,3 +228,9 @@ pub held_waits : (a : Asked) (got : List (List ℕ)) (indexes : List ℕ) → re
     → Leads a (Held got indexes) (made (shape a (Held got indexes)) (Work (number_of a))) (Held got indexes)
 held_waits a got indexes fact none entry =
     wait_leads a (Held got indexes) (Gathers a.call got false) reply.NotReady (record { taken = refl; grows = refl }) refl (not_ready a (Gathers a.call got false) (held_acts a got fact none) entry)
+
+-- whatever is moved, a call that was told stays so
+pub told_leads : (a : Asked) (indexes : List ℕ) (e : Entry) (now : Delivery) (move : Move) → Leads a (Told indexes e now) (made (shape a (Told indexes e now)) move) (Told indexes e now)
+told_leads a indexes e now ToServer = stays a (Told indexes e now)
+told_leads a indexes e now ToClient = none_leads a (Told indexes e now) refl
+told_leads a indexes e now (Work r) = no_call_leads a (Told indexes e now) r (get-empty nat_cmp r.0)

@@ -112,25 +112,6 @@ call_asks a journal got need next =
     ∙ moves_to a journal x reply.Asked journal _ _
     (ap (λ (m : FinMap nat_cmp OpenCall). record x { calls = m; queue = ask (number_of a) (length got) need ∷ [] }) (call_put n (Some task) (Gathers a.call got true)))
 
--- the call waits for an answer, or is answered already
-pub call_waits : (a : Asked) (journal : List Entry) (queue : List Frame) (task : OpenCall) (answer : Reply)
-    → let x = connection_at a (a.link.client.last + 1) (Some task) queue in
-    work_call true (server_at a journal x) a.link.conn x (number_of a) task ≡ (answer, server_at a journal x)
-    → played true (server_at a journal x) (event.Work a.link.conn (number_of a)) ≡ (answer, server_at a journal x)
-call_waits a journal queue task answer e =
-    let x = connection_at a (a.link.client.last + 1) (Some task) queue in
-    is_worked a journal x (number_of a)
-    ∙ ap (λ (o : Option OpenCall). work_number true (server_at a journal x) a.link.conn x (number_of a) o) (call_there (a.link.client.last + 1) task)
-    ∙ e
-
--- nothing else is there to be worked
-pub none_works : (a : Asked) (journal : List Entry) (last : ℕ) (task : Option OpenCall) (queue : List Frame) (r : ReqNo)
-    → get (calls_at (a.link.client.last + 1) task) r.0 ≡ None
-    → played true (server_at a journal (connection_at a last task queue)) (event.Work a.link.conn r) ≡ (reply.Nothing, server_at a journal (connection_at a last task queue))
-none_works a journal last task queue r none =
-    let x = connection_at a last task queue in
-    is_worked a journal x r ∙ ap (λ (o : Option OpenCall). work_number true (server_at a journal x) a.link.conn x r o) none
-
 -- the call is performed, where it has an entry
 pub call_acts : (a : Asked) (task : OpenCall) (e : Entry)
     → let x = connection_at a (a.link.client.last + 1) (Some task) [] in

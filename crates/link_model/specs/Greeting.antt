@@ -1,5 +1,5 @@
 -- A client that greets a server over a connection that has just opened.
-use Rattle.std.specs.Prelude.{◌≡◌, true, false, IsSome, List, [], ◌∷◌, ◌++◌, Some}
+use Rattle.std.specs.Prelude.{◌≡◌, true, false, IsSome, [], ◌∷◌, ◌++◌, Some}
 use Rattle.sp_base.specs.Table.{lowest_unused}
 use Rattle.sp_base.specs.declared.limits.TheConstants.{FIRST_PROCESS}
 use Rattle.sp_base.specs.declared.names.ConnNo.{ConnNo}

@@ -2,3 +2,4 @@ pub mod Direct
 pub mod Link
 pub mod Asked
 pub mod Greeting
+pub mod Route

@@ -1,4 +1,5 @@
-//! The law of one call through frames: a client's call over a link gives what it gives where it is made of the kernel at once.
+//! The law of one call through frames: a client's call over a link gives what it gives where it is
+//! made of the kernel at once.
 #![tactic(auto)]
 
 mod laws;

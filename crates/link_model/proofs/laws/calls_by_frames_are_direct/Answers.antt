@@ -1,6 +1,6 @@
 use Rattle.std.proofs.Common.{ap}
 use Rattle.client_model.specs.State.{Played}
-use Rattle.link_model.proofs.Ends.{moves_end}
+use Rattle.link_model.proofs.Ends.{moves_end, route_ends}
 use Rattle.link_model.proofs.Law.{started, moves_fine, journal_grows, journal_stands, answer_stands, whole_again}
 use Rattle.link_model.proofs.laws.calls_by_frames_are_direct.Goals as goal
 
@@ -24,3 +24,6 @@ returns-clause-ends c = moves_end
 
 pub returns-clause-whole : goal.returns-clause-whole
 returns-clause-whole c = whole_again
+
+pub returns-clause-arrives : goal.returns-clause-arrives
+returns-clause-arrives c = route_ends
