@@ -70,19 +70,24 @@ journal_before asked = asked.link.server.journal
 
 -- the entry that the kernel would give to the call and to what it reads of its caller's memory, at the end of the journal before it
 abbrev pub entry_of : Asked → Option Entry
-entry_of asked = next_entry (journal_before asked) asked.whole.pid (Request asked.link.conn (number_of asked)) (Sys asked.call) (reads asked.call asked.mem)
+entry_of asked =
+    next_entry (journal_before asked) asked.whole.pid (Request asked.link.conn (number_of asked)) (Sys asked.call) (reads asked.call asked.mem)
 
 -- what its caller would see of the call, made of the kernel there with the memory in hand
 abbrev pub direct_of : Asked → Option (Answer × List Part)
 direct_of asked = direct (state_after (journal_before asked)) (length (journal_before asked)) asked.whole.pid.0 asked.call asked.mem
 
+-- what the client answers to who collects the call, and the client then
+abbrev pub collecting : Asked → Link → Played
+collecting asked link = client.played link.client (client_event.Collect (number_of asked))
+
 -- what the client answers to who collects the call
 abbrev pub collected : Asked → Link → ClientReply
-collected asked link = (client.played link.client (client_event.Collect (number_of asked))).0
+collected asked link = (collecting asked link).0
 
 -- the link once the call was collected
 abbrev pub after_collecting : Asked → Link → Link
-after_collecting asked link = record link { client = (client.played link.client (client_event.Collect (number_of asked))).1 }
+after_collecting asked link = record link { client = (collecting asked link).1 }
 
 -- the journal has the call's entry, and no other one, behind those before it
 pub record IsPerformed (asked : Asked) (journal : List Entry) : Type 0 where

@@ -1,6 +1,5 @@
 -- A link between a client and a server, and the moves that are made on it.
-use Rattle.std.specs.Prelude.{List, [], ◌∷◌, Option, None, Some}
-use Rattle.std.specs.Prelude.{true}
+use Rattle.std.specs.Prelude.{true, List, [], ◌∷◌, Option, None, Some}
 use Rattle.sp_base.specs.declared.names.ConnNo.{ConnNo}
 use Rattle.hub_model.specs.Machine as server
 use Rattle.hub_model.specs.State.{Machine}
