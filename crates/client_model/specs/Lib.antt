@@ -5,3 +5,4 @@ pub mod Asks
 pub mod Requests
 pub mod Machine
 pub mod Run
+pub mod Told

@@ -4,6 +4,7 @@ use Rattle.std.specs.Ordering.{nat_cmp}
 use Rattle.std.specs.FinMap.{FinMap, empty, insert}
 use Rattle.sp_copy.specs.declared.delivery.Delivery.{Delivery}
 use Rattle.sp_copy.specs.declared.part.Part.{Part}
+use Rattle.sp_frames.specs.Grammar.{IsName}
 use Rattle.sp_frames.specs.declared.frame.Body.TheVariants as body
 use Rattle.sp_frames.specs.declared.frame.Frame.{Frame}
 use Rattle.sp_frames.specs.declared.version.Version.{Version}
@@ -45,6 +46,10 @@ fresh_request request mem = record {
   asked = [];
   response = None;
 }
+
+-- the hello names a guest as a frame can carry it
+abbrev pub HasName : Hello → Type 0
+HasName (Guest name) = IsName name
 
 -- the frame of a handshake
 abbrev pub hello_frame : Hello → Frame

@@ -5,7 +5,8 @@ use sp_frames::Frame;
 /// How a client begins.
 #[derive(Debug, Drop)]
 pub enum Hello {
-    /// As a guest of this name, 1 to 255 bytes without a zero, for which the server makes a process.
+    /// As a guest of this name, 1 to 255 bytes without a zero, for which the server makes a
+    /// process.
     Guest(Octets),
 }
 
@@ -24,7 +25,8 @@ pub enum Event {
     Gone,
 }
 
-/// What the client answers to an event. The memory that a caller lent comes back with the reply that ends its request.
+/// What the client answers to an event. The memory that a caller lent comes back with the reply
+/// that ends its request.
 #[derive(Debug, Drop)]
 pub enum Reply {
     /// The request has this number.
