@@ -12,7 +12,9 @@ use std::alloc::Global;
 
 /// A piece by its place.
 fn piece_at(pieces: &[Octets], at: usize) -> Option<&[u8]>
-    ensures { MatchOption result (slice_get pieces.now at ≡ None) (λ piece. slice_get pieces.now at ≡ Some piece.now) }
+    ensures { MatchOption result
+        (slice_get pieces.now at ≡ None)
+        (λ piece. slice_get pieces.now at ≡ Some piece.now) }
 {
     match pieces.get(at) {
         Some(piece) => Some(piece.slice()),

@@ -255,9 +255,20 @@ fn whole_journals(rt: HostRuntime) -> Result<(), Fail> {
         })?;
     }
     let text = journal_text(alloc, SideName::Host, journal.as_slice())?;
-    let want =
-        b"journal host\n0 4/1 0 attach = 2\n1 host/1/9 2 fork = 3\n2 5/1 2 exec = 0\n3 cancel/6 3 exit = 0\n4 end/5 2 exit = 0\n";
-    assert_eq!(rt; text.slice(), want.as_slice());
+    let lines = [
+        "journal host",
+        "0 4/1 0 attach = 2",
+        "1 host/1/9 2 fork = 3",
+        "2 5/1 2 exec = 0",
+        "3 cancel/6 3 exit = 0",
+        "4 end/5 2 exit = 0",
+    ];
+    let mut want = Octets::none(alloc);
+    for line in lines {
+        want.extend(line.as_bytes())?;
+        want.push(b'\n')?;
+    }
+    assert_eq!(rt; text.slice(), want.slice());
     let empty = journal_text(alloc, SideName::Rump, &[])?;
     assert_eq!(rt; empty.slice(), b"journal rump\n".as_slice());
     Ok(())

@@ -100,7 +100,9 @@ fn answered_entry(alloc: Global, bytes: &[u8]) -> Result<Option<Octets>, NoMemor
 /// The events that a script asks for.
 #[tactic(auto, unfolding(crate::specs::Answered::asked_name))]
 fn asked_name(events: u16) -> Option<&'static [u8]>
-    ensures { MatchOption result (asked_name events ≡ None) (λ name. asked_name events ≡ Some name.now) }
+    ensures { MatchOption result
+        (asked_name events ≡ None)
+        (λ name. asked_name events ≡ Some name.now) }
 {
     match events {
         0 => Some(b"none".as_slice()),
@@ -111,8 +113,8 @@ fn asked_name(events: u16) -> Option<&'static [u8]>
     }
 }
 
-/// The text of the entry that bytes begin with, as a script asks for it; none where they are too few,
-/// or no script asks so.
+/// The text of the entry that bytes begin with, as a script asks for it; none where they are too
+/// few, or no script asks so.
 #[tactic(auto, unfolding(crate::specs::Answered::asked_entry))]
 fn asked_entry(alloc: Global, bytes: &[u8]) -> Result<Option<Octets>, NoMemory>
     ensures { IfOk result (λ text. text ≡ asked_entry bytes.now) }

@@ -110,8 +110,8 @@ fn words_addition(words: &[&[u8]]) -> Addition
     addition_of(verb_in(words), behind(words))
 }
 
-/// Appends an answer: -1 and the error, or the value and what is added to it. An error leaves some of
-/// the text behind.
+/// Appends an answer: -1 and the error, or the value and what is added to it. An error may
+/// leave a part of it behind the text.
 #[tactic(auto, unfolding(crate::specs::Rows::answer_text))]
 pub fn put_answer(
     alloc: Global,
