@@ -1,10 +1,13 @@
 -- The next entry of a journal, and which processes are live after it.
-use Rattle.std.proofs.Common.{◌≡◌, ◌≢◌, ℕ, zero, suc, ◌<◌, List, [], ◌∷◌, ◌++◌, length, Option, Some, None, IsSome, refl, sym, ap, subst, ◌∙◌}
-use Rattle.std.specs.Prelude.{slice_set, is_some}
+use Rattle.std.proofs.Common.{◌≡◌, ◌≢◌, ℕ, zero, suc, ◌+◌, ◌<◌, List, [], ◌∷◌, ◌++◌, length, Option, Some, None, IsSome, refl, sym, ap, subst, ◌∙◌, arith}
+use Rattle.std.specs.Prelude.{slice_set, is_some, count_by}
+use Rattle.std.proofs.lemmas.List.Sums.{sum_by-cons}
 use Rattle.sp_base.specs.Table.{at, lowest_unused}
 use Rattle.sp_base.specs.declared.call.Call.{Call}
+use Rattle.sp_base.specs.declared.errno.Errno.TheVariants.{Eagain}
 use Rattle.sp_base.specs.declared.limits.TheConstants.{FIRST_PROCESS}
 use Rattle.sp_base.specs.declared.names.Pid.{Pid}
+use Rattle.sp_base.proofs.CountLaws.{one_if}
 use Rattle.sp_base.proofs.TableLaws.{at_within, lowest_unused_is}
 use Rattle.kern_model.specs.declared.journal.Entry.{Entry}
 use Rattle.kern_model.specs.declared.journal.Who.{Who}
@@ -18,9 +21,9 @@ use Rattle.kern_model.specs.Journal.{FitsPid, Follows, state_after, entry_of_ste
 use Rattle.kern_model.specs.Needs.{FitsIns}
 use Rattle.kern_model.specs.Outcome.{success}
 use Rattle.kern_model.specs.State.{State, Process, fresh_process, with_process}
-use Rattle.kern_model.specs.Step.{Step, answered}
+use Rattle.kern_model.specs.Step.{Step, answered, or_fail}
 use Rattle.kern_model.proofs.Journals.{entry, state_after-push, after_entry-entry, follows_by}
-use Rattle.kern_model.proofs.Lemmas.{each_is, call_keeps, exit_ends}
+use Rattle.kern_model.proofs.Lemmas.{each_is, call_keeps, exit_ends, journal_tables}
 
 -- an operation's entry, with the state after it
 pub record Nexts (journal : List Entry) (pid : Pid) (who : Who) (op : Op) (ins : Ins) (e : Entry) : Type 0 where
@@ -96,3 +99,49 @@ call_live s pid call ins outcome t q h live = (call_keeps s pid call ins outcome
 -- an exit leaves every other process live
 pub exit_live : (s : State) (pid : ℕ) (outcome : Outcome) (t : State) (q : ℕ) → act_exit s pid ≡ Some (outcome, t) → q ≢ pid → IsSome (at s.processes q) → IsSome (at t.processes q)
 exit_live s pid outcome t q h ne live = ap (λ (o : Option Process). is_some o) ((exit_ends s pid outcome t h).others q ne) ∙ live
+
+-- ---- how many processes there are
+
+-- a journal leaves 258 numbers of processes, used or not
+pub process_numbers : (journal : List Entry) → length (state_after journal).processes ≡ 258
+process_numbers journal = (journal_tables journal).numbers
+
+attach_by : (s : State) (number : Option ℕ) (outcome : Outcome) (t : State) → lowest_unused s.processes FIRST_PROCESS ≡ number
+    → or_fail number Eagain s (λ pid. answered pid (with_process s pid (Some fresh_process))) ≡ Some (outcome, t) → length s.processes ≡ 258 → outcome.ret0 < 258
+attach_by s None outcome t low h len = each_is (λ o u. o.ret0 < 258) _ outcome t (omega arith) h
+attach_by s (Some n) outcome t low h len = each_is (λ o u. o.ret0 < 258) _ outcome t (let lt = (lowest_unused_is s.processes FIRST_PROCESS n low).0 in omega arith) h
+
+-- the number that an attach answers, or 0, is below 258
+pub attach_below : (s : State) (outcome : Outcome) (t : State) → act_attach s ≡ Some (outcome, t) → length s.processes ≡ 258 → outcome.ret0 < 258
+attach_below s outcome t h len = attach_by s (lowest_unused s.processes FIRST_PROCESS) outcome t refl h len
+
+-- tables that have something at the same numbers have as many items
+count_same : {X : Type 0} (old new : List (Option X)) → length new ≡ length old → ((q : ℕ) → is_some (at new q) ≡ is_some (at old q)) → count_by is_some new ≡ count_by is_some old
+count_same [] [] e same = refl
+count_same [] (y ∷ new) e same = absurd (omega (arith, e))
+count_same (x ∷ old) [] e same = absurd (omega (arith, e))
+count_same (x ∷ old) (y ∷ new) e same =
+    let rest = count_same old new (omega (arith, e)) (λ q. same (suc q)) in
+    let one : one_if (is_some y) ≡ one_if (is_some x) = ap one_if (same 0) in
+    let was = sum_by-cons (λ o. one_if (is_some o)) x old in
+    let is = sum_by-cons (λ o. one_if (is_some o)) y new in
+    omega (arith, rest, was, is, one)
+
+-- a table that differs at one number from another has one item more, one fewer, or as many
+pub count_changed : {X : Type 0} (old new : List (Option X)) (n : ℕ) → length new ≡ length old → ((q : ℕ) → q ≢ n → is_some (at new q) ≡ is_some (at old q))
+    → count_by is_some new + one_if (is_some (at old n)) ≡ count_by is_some old + one_if (is_some (at new n))
+count_changed [] [] n e same = refl
+count_changed [] (y ∷ new) n e same = absurd (omega (arith, e))
+count_changed (x ∷ old) [] n e same = absurd (omega (arith, e))
+count_changed (x ∷ old) (y ∷ new) zero e same =
+    let rest = count_same old new (omega (arith, e)) (λ q. same (suc q) (λ k. omega (arith, k))) in
+    let was = sum_by-cons (λ o. one_if (is_some o)) x old in
+    let is = sum_by-cons (λ o. one_if (is_some o)) y new in
+    omega (arith, rest, was, is)
+count_changed (x ∷ old) (y ∷ new) (suc n) e same =
+    let rest = count_changed old new n (omega (arith, e)) (λ q ne. same (suc q) (λ k. ne (omega (arith, k)))) in
+    let first : is_some y ≡ is_some x = same 0 (λ k. omega (arith, k)) in
+    let one : one_if (is_some y) ≡ one_if (is_some x) = ap one_if first in
+    let was = sum_by-cons (λ o. one_if (is_some o)) x old in
+    let is = sum_by-cons (λ o. one_if (is_some o)) y new in
+    omega (arith, rest, was, is, one)

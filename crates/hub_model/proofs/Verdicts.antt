@@ -20,6 +20,7 @@ use Rattle.sp_frames.specs.declared.frame.Body.{Body}
 use Rattle.sp_frames.specs.declared.frame.Body.TheVariants.{Guest, Sys, GotBytes, GotText}
 use Rattle.sp_frames.specs.declared.frame.Frame.{Frame}
 use Rattle.kern_model.specs.State.{State}
+use Rattle.hub_model.specs.Machine.{refusal_takes}
 use Rattle.hub_model.specs.Requests.{bytes_in}
 use Rattle.hub_model.specs.State.{Connection, is_live, is_fresh, is_draining}
 use Rattle.hub_model.specs.Verdict.{is_other_count, is_later_call, call_verdict, guest_verdict, request_verdict, is_copy_of, index_in, error_in, copy_by_error, is_index, need_verdict, copy_verdict, body_verdict, verdict_of}
@@ -153,6 +154,33 @@ body_refuses s x f why (GotBytes index err bytes) e = absurd (copies_only (get x
 body_refuses s x f why (GotText index err bytes) e = absurd (copies_only (get x.calls f.number.0) (GotText index err bytes) (Refused why) (λ q. cc) (λ q. cc) (λ e q. cc) e)
 body_refuses s x f why _ e = absurd cc
 
+-- ---- an error that isn't a connection's last one takes memory
+
+guest_takes : (a b : Bool) (why : SpError) → cond a Malformed (cond b (Refused ProcFull) Attach) ≡ Refused why → IsTrue (refusal_takes why)
+guest_takes true b why e = absurd cc
+guest_takes false true why e = let same : ProcFull ≡ why = cc in subst (λ (w : SpError). IsTrue (refusal_takes w)) same refl
+guest_takes false false why e = absurd cc
+
+call_takes : (a b c d f : Bool) (call : Call) (why : SpError)
+    → cond a Malformed (cond b Malformed (cond c Malformed (cond d (Refused InExec) (cond f (Refused TryAgain) (Task call))))) ≡ Refused why → IsTrue (refusal_takes why)
+call_takes true b c d f call why e = absurd cc
+call_takes false true c d f call why e = absurd cc
+call_takes false false true d f call why e = absurd cc
+call_takes false false false true f call why e = let same : InExec ≡ why = cc in subst (λ (w : SpError). IsTrue (refusal_takes w)) same refl
+call_takes false false false false true call why e = let same : TryAgain ≡ why = cc in subst (λ (w : SpError). IsTrue (refusal_takes w)) same refl
+call_takes false false false false false call why e = absurd cc
+
+body_takes : (s : State) (x : Connection) (n : ℕ) (why : SpError) (body : Body) → body_verdict s x n body ≡ Refused why → IsTrue (refusal_takes why)
+body_takes s x n why (Guest name) e =
+    let r = numbered x n (guest_verdict s x) (Refused why) (λ q. cc) e in
+    guest_takes (not (is_fresh x.condition)) (is_none (lowest_unused s.processes FIRST_PROCESS)) why r.1
+body_takes s x n why (Sys num words) e =
+    let r = numbered x n (call_verdict x num words) (Refused why) (λ q. cc) e in
+    call_takes (is_fresh x.condition) (is_other_count (wanted_words num) (length words)) (is_later_call num) (not (is_live x.condition)) (nat_le OPEN_CALLS (len x.calls)) (call_of num words) why r.1
+body_takes s x n why (GotBytes index err bytes) e = absurd (copies_only (get x.calls n) (GotBytes index err bytes) (Refused why) (λ q. cc) (λ q. cc) (λ e q. cc) e)
+body_takes s x n why (GotText index err bytes) e = absurd (copies_only (get x.calls n) (GotText index err bytes) (Refused why) (λ q. cc) (λ q. cc) (λ e q. cc) e)
+body_takes s x n why _ e = absurd cc
+
 -- a frame that isn't malformed, on a connection that takes frames
 taken : (s : State) (x : Connection) (f : Frame) (w : Verdict) → Closed ≢ w → verdict_of s x f ≡ w → body_verdict s x f.number.0 f.body ≡ w
 taken s x f w closed e = (otherwise (is_draining x.condition) Closed _ w e closed).1
@@ -165,6 +193,9 @@ opens s x f call e = body_opens s x f call f.body (taken s x f (Task call) (λ q
 
 pub refuses : (s : State) (x : Connection) (f : Frame) (why : SpError) → verdict_of s x f ≡ Refused why → x.last < f.number.0
 refuses s x f why e = body_refuses s x f why f.body (taken s x f (Refused why) (λ q. cc) e)
+
+pub refuses_takes : (s : State) (x : Connection) (f : Frame) (why : SpError) → verdict_of s x f ≡ Refused why → IsTrue (refusal_takes why)
+refuses_takes s x f why e = body_takes s x f.number.0 why f.body (taken s x f (Refused why) (λ q. cc) e)
 
 -- ---- copies
 

@@ -8,3 +8,4 @@ pub mod Work
 pub mod Machine
 pub mod Run
 pub mod Sound
+pub mod Task

@@ -1,25 +1,21 @@
 -- The lines of a section, one after another.
-use Rattle.std.proofs.Common.{◌≡◌, inl, inr, ℕ, zero, suc, ◌+◌, ◌<◌, ◌≤◌, List, [], ◌∷◌, ◌++◌, length, get_or, take, refl, sym, ap, subst, ◌∙◌, arith, append_assoc, length-append}
+use Rattle.std.proofs.Common.{◌≡◌, ℕ, zero, suc, ◌+◌, ◌<◌, ◌≤◌, List, [], ◌∷◌, ◌++◌, length, get_or, take, refl, sym, ap, subst, ◌∙◌, arith, append_assoc, length-append}
 use Rattle.std.proofs.lemmas.List.{append-nil, take_more, length-take}
 use Rattle.std.specs.List.{AllByRecursion}
-use Rattle.std.specs.Prelude.{IsTrue}
-use Rattle.sp_base.specs.declared.call.Call.{Call}
 use Rattle.sp_base.specs.declared.names.Answer.{Answer}
 use Rattle.sp_base.specs.declared.names.Pid.{Pid}
 use Rattle.kern_model.specs.Journal.{IsLegal, HasOwnKeys}
 use Rattle.kern_model.specs.declared.journal.Entry.{Entry}
 use Rattle.kern_model.specs.declared.operation.Op.TheVariants.{Sys}
 use Rattle.kern_model.specs.declared.outcome.Outcome.{Outcome}
-use Rattle.sp_hub.specs.Kernel.{answer_at}
-use Rattle.sp_hub.specs.Machine.{Machine}
-use Rattle.sp_hub.specs.Verdict.{is_taken}
+use Rattle.hub_model.specs.Frames.{answer_at}
+use Rattle.hub_model.specs.State.{Machine}
 use Rattle.guest_script.specs.Script.{IsLineCall, IsAskable}
 use Rattle.guest_script.specs.Row.{row_text}
 use Rattle.guest_script.specs.declared.script.Line.{Line}
 use Rattle.guest_script.specs.declared.script.Section.{Section}
 use Rattle.rump_sp.specs.Run.{request_key, guest_entry, attach_entry, call_entries, exit_entry, rows_from, ShowsRun}
-use Rattle.rump_sp.specs.Guest.{at_rest, IsResting, IsReady, IsAttached, IsCalled, AreCalled, HasEnded}
-use Rattle.rump_sp.proofs.MachineLaws.{rests}
+use Rattle.rump_sp.specs.Guest.{IsResting, IsReady, IsAttached, IsCalled, AreCalled, HasEnded}
 
 -- what holds of each line holds of the line at a place
 pub line_at : (P : Line → Type 0) (lines : List Line) (i : ℕ) (line : Line) → AllByRecursion P lines → i < length lines → line ≡ get_or lines i line → P line
@@ -27,13 +23,8 @@ line_at P [] i line all lt is = absurd (omega arith)
 line_at P (x ∷ lines) zero line all lt is = subst P (sym is) all.0
 line_at P (x ∷ lines) (suc i) line all lt is = line_at P lines i line all.1 (omega arith) is
 
--- the server takes what a line says
-said_taken : (call : Call) → IsLineCall call → IsTrue (is_taken call)
-said_taken call (inl e) = subst (λ (c : Call). IsTrue (is_taken c)) (sym e) refl
-said_taken call (inr close) = subst (λ (c : Call). IsTrue (is_taken c)) (sym close.1) refl
-
-pub taken_at : (lines : List Line) (i : ℕ) (line : Line) → AllByRecursion IsAskable lines → i < length lines → line ≡ get_or lines i line → IsTrue (is_taken line.call)
-taken_at lines i line all lt is = said_taken line.call (line_at IsAskable lines i line all lt is).said
+pub said_at : (lines : List Line) (i : ℕ) (line : Line) → AllByRecursion IsAskable lines → i < length lines → line ≡ get_or lines i line → IsLineCall line.call
+said_at lines i line all lt is = (line_at IsAskable lines i line all lt is).said
 
 -- there is an entry for each line
 entries_len : (pid : Pid) (n : ℕ) (lines : List Line) (outcomes : List Outcome) → length outcomes ≡ length lines → length (call_entries pid n lines outcomes) ≡ length lines
@@ -68,7 +59,8 @@ pub none_called : (m : Machine) (pid : Pid) (guest : List ℕ) (lines : List Lin
 none_called m pid guest lines rows at empty = record {
   outcomes = [];
   each = refl;
-  machine = at ∙ ap (λ (j : List Entry). at_rest j pid 1) (sym (append-nil m.journal));
+  journal = sym (append-nil m.journal);
+  at = at;
   rows = empty;
 }
 
@@ -76,7 +68,7 @@ none_called m pid guest lines rows at empty = record {
 pub ready_for : (m m1 : Machine) (pid : Pid) (guest : List ℕ) (lines : List Line) (rows : List ℕ) (i : ℕ) → i < length lines → AreCalled m pid guest (take i lines) rows m1 → IsReady m1 (i + 1 + 1)
 ready_for m m1 pid guest lines rows i lt so =
     let len : length (take i lines) ≡ i = omega (arith, length-take i lines) in
-    record { pid = pid; last = length (take i lines) + 1; below = omega arith; at = rests m1 _ pid _ so.machine }
+    record { pid = pid; last = length (take i lines) + 1; below = omega arith; at = so.at }
 
 -- one line more
 pub one_more : (m m1 m2 : Machine) (pid : Pid) (guest : List ℕ) (lines : List Line) (rows rows' : List ℕ) (i : ℕ) (line : Line) (answer : Answer) → i < length lines → line ≡ get_or lines i line → length m.journal ≡ 1
@@ -88,22 +80,21 @@ one_more m m1 m2 pid guest lines rows rows' i line answer lt is begun so call wr
     let done = take i lines in
     let more : take (i + 1) lines ≡ done ++ line ∷ [] = take_more lines i line lt ∙ ap (λ (x : Line). done ++ x ∷ []) (sym is) in
     let len : length done ≡ i = omega (arith, length-take i lines) in
-    let called = call pid (length done + 1) (rests m1 _ pid _ so.machine) in
+    let called = call pid (length done + 1) so.at in
     let entries = call_entries pid 2 done so.outcomes in
     let size = entries_len pid 2 done so.outcomes so.each in
-    let journal : m1.journal ≡ m.journal ++ entries = ap (λ (x : Machine). x.journal) so.machine in
-    let place : length m1.journal ≡ i + 1 = omega (arith, ap length journal, length-append m.journal entries, size, begun, len) in
+    let place : length m1.journal ≡ i + 1 = omega (arith, ap length so.journal, length-append m.journal entries, size, begun, len) in
     let answered : answer ≡ answer_at called.outcome (i + 1) = called.answered ∙ ap (λ k. answer_at called.outcome k) place in
     let entry = guest_entry pid (request_key (i + 1 + 1)) (Sys line.call) called.outcome in
     let grown : m1.journal ++ entry ∷ [] ≡ m.journal ++ call_entries pid 2 (done ++ line ∷ []) (so.outcomes ++ called.outcome ∷ []) =
-    ap (λ (j : List Entry). j ++ entry ∷ []) journal ∙ append_assoc m.journal entries (entry ∷ [])
+    ap (λ (j : List Entry). j ++ entry ∷ []) so.journal ∙ append_assoc m.journal entries (entry ∷ [])
     ∙ ap (λ (j : List Entry). m.journal ++ j) (sym (entries_push pid 2 (i + 1 + 1) done so.outcomes line called.outcome so.each (omega arith))) in
     let count : length (done ++ line ∷ []) ≡ i + 1 = omega (arith, length-append done (line ∷ []), len) in
     rw more (record {
       outcomes = so.outcomes ++ called.outcome ∷ [];
       each = omega (arith, length-append so.outcomes (called.outcome ∷ []), length-append done (line ∷ []), so.each);
-      machine = called.machine ∙ ap (λ (j : List Entry). at_rest j pid (i + 1 + 1)) grown
-          ∙ ap (λ k. at_rest (m.journal ++ call_entries pid 2 (done ++ line ∷ []) (so.outcomes ++ called.outcome ∷ [])) pid (k + 1)) (sym count);
+      journal = called.journal ∙ grown;
+      at = subst (λ k. IsResting m2 pid (k + 1)) (sym count) called.at;
       rows = written ∙ ap (λ (text : List ℕ). text ++ row_text guest (i + 1) line.text answer) so.rows
           ∙ ap (λ (a : Answer). rows_from guest 1 done so.outcomes ++ row_text guest (i + 1) line.text a) answered
           ∙ sym (rows_push guest 1 (i + 1) done so.outcomes line called.outcome so.each (omega arith));
@@ -119,25 +110,17 @@ all_called m m1 pid guest lines lines' rows i le same so = let whole : take i li
     take_all (x ∷ xs) zero le = absurd (omega arith)
     take_all (x ∷ xs) (suc i) le = ap (λ (ys : List Line). x ∷ ys) (take_all xs i (omega arith))
 
--- a machine at rest after its attach
-pub attached_at : (pid : Pid) (m : Machine) → IsAttached pid m → IsResting m pid 1
-attached_at pid m a = rests m _ pid 1 a.machine
-
 pub attached_len : (pid : Pid) (m : Machine) → IsAttached pid m → length m.journal ≡ 1
-attached_len pid m a = ap (λ (x : Machine). length x.journal) a.machine
+attached_len pid m a = ap (λ (j : List Entry). length j) a.journal
 
 -- the calls leave the machine at rest
-pub called_at : (m m1 : Machine) (pid : Pid) (guest : List ℕ) (lines : List Line) (rows : List ℕ) → AreCalled m pid guest lines rows m1 → IsResting m1 pid (length lines + 1)
-called_at m m1 pid guest lines rows so = rests m1 _ pid _ so.machine
-
 pub rested : (m m1 : Machine) (pid : Pid) (guest : List ℕ) (lines : List Line) (rows : List ℕ) → AreCalled m pid guest lines rows m1 → (number : ℕ) × IsReady m1 number
-rested m m1 pid guest lines rows so = (length lines + 2, record { pid = pid; last = length lines + 1; below = omega arith; at = called_at m m1 pid guest lines rows so })
+rested m m1 pid guest lines rows so = (length lines + 2, record { pid = pid; last = length lines + 1; below = omega arith; at = so.at })
 
 -- the whole run
 pub run_is : (m m1 m2 : Machine) (pid : Pid) (section : Section) (rows : List ℕ) → IsLegal m2.journal → HasOwnKeys m2.journal → IsAttached pid m → AreCalled m pid section.name section.lines rows m1 → HasEnded m1 pid m2 → ShowsRun section rows
 run_is m m1 m2 pid section rows legal keys a so ended =
-    let begun : m.journal ≡ attach_entry a.outcome ∷ [] = ap (λ (x : Machine). x.journal) a.machine in
-    let journal : m1.journal ≡ attach_entry a.outcome ∷ call_entries pid 2 section.lines so.outcomes = ap (λ (x : Machine). x.journal) so.machine ∙ ap (λ (j : List Entry). j ++ call_entries pid 2 section.lines so.outcomes) begun in
+    let journal : m1.journal ≡ attach_entry a.outcome ∷ call_entries pid 2 section.lines so.outcomes = so.journal ∙ ap (λ (j : List Entry). j ++ call_entries pid 2 section.lines so.outcomes) a.journal in
     let whole : m2.journal ≡ attach_entry a.outcome ∷ (call_entries pid 2 section.lines so.outcomes ++ exit_entry pid ended.0 ∷ []) = ended.1 ∙ ap (λ (j : List Entry). j ++ exit_entry pid ended.0 ∷ []) journal in
     record {
       journal = m2.journal;

@@ -6,7 +6,6 @@ use Rattle.kern_model.specs.State.{State, opening}
 use Rattle.kern_model.specs.declared.journal.Entry.{Entry}
 use Rattle.kern_model.specs.declared.operation.Op.TheVariants.{Sys}
 use Rattle.kern_model.specs.declared.outcome.Outcome.{Outcome}
-use Rattle.guest_script.specs.Script.{script_of}
 use Rattle.guest_script.specs.declared.script.Line.{Line}
 use Rattle.guest_script.specs.declared.script.Script.{Script}
 use Rattle.guest_script.specs.declared.script.Section.{Section}

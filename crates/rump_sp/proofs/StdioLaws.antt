@@ -10,9 +10,9 @@ takes_nothing : (left : Option (List ℕ)) → Consumes left left []
 takes_nothing None = tt
 takes_nothing (Some xs) = refl
 
-cut_at_nothing : IsCutOff [] [] []
+cut_at_nothing : IsCutOff [] [] [] []
 cut_at_nothing =
-    let out = some_out [] [] (λ i. omega arith) in
+    let out = some_out [] (λ i. omega arith) in
     record { how = out.0; offset = out.1; whole = out.2; count = 0; out = out.3; cut = refl }
 
 -- want of memory before anything is read or written
@@ -21,6 +21,7 @@ pub nothing_served : (left passed held drawn : Option (List ℕ))
 nothing_served left passed held drawn = record {
   taken = [];
   salts = [];
+  refused = [];
   text = [];
   source = takes_nothing left;
   counted = appends_nothing passed;

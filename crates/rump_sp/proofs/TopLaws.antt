@@ -14,7 +14,7 @@ use Rattle.guest_script.specs.declared.script.Section.{Section}
 use Rattle.rump_sp.specs.Run.{ShowsRun}
 use Rattle.rump_sp.specs.declared.failure.Failure.{Failure}
 use Rattle.rump_sp.specs.declared.failure.Failure.TheVariants.{Usage, TooLong, Line, Input, Output, BadFrame, Inside, TooMuch, Salt, NoMemory}
-use Rattle.rump_sp.specs.Failure.{statuses, status_of, exit_status, told_of, message_of, Tells}
+use Rattle.rump_sp.specs.Failure.{statuses, status_of, message_of}
 use Rattle.rump_sp.specs.Top.{failure_by, failure_of, Shows, Prints, PrintsFront, IsNoScript, TellsFault, IsScriptFailure}
 
 -- ---- a script and what it shows

@@ -9,8 +9,9 @@ use Rattle.kern_model.specs.declared.operation.Op.{Op}
 use Rattle.kern_model.specs.declared.operation.Op.TheVariants.{Sys, Attach, Exit}
 use Rattle.kern_model.specs.declared.outcome.Outcome.{Outcome}
 use Rattle.kern_model.specs.Journal.{IsLegal, HasOwnKeys}
-use Rattle.sp_hub.specs.Kernel.{answer_at}
-use Rattle.sp_hub.specs.Step.{nothing_read, no_process}
+use Rattle.hub_model.specs.Ends.{nothing_read}
+use Rattle.hub_model.specs.Frames.{answer_at}
+use Rattle.hub_model.specs.Requests.{no_process}
 use Rattle.guest_script.specs.declared.script.Line.{Line}
 use Rattle.guest_script.specs.declared.script.Section.{Section}
 use Rattle.guest_script.specs.Row.{row_text}

@@ -1,16 +1,9 @@
--- What the journal's kernel answers to an operation.
-use Rattle.std.specs.Prelude.{◌≡◌, ℕ, List, [], ◌∷◌, ◌++◌, length, Option, Some}
-use Rattle.sp_base.specs.declared.names.Answer.{Answer}
+-- What a handshake does to the kernel.
+use Rattle.std.specs.Prelude.{◌≡◌, List, [], ◌∷◌, ◌++◌, Option, None, Some}
+use Rattle.sp_base.specs.declared.names.Pid.{Pid}
 use Rattle.kern_model.specs.declared.journal.Entry.{Entry}
-use Rattle.kern_model.specs.declared.outcome.Outcome.{Outcome}
 
--- an outcome's numbers, and the place of its entry
-abbrev pub answer_at : Outcome → ℕ → Answer
-answer_at outcome place = record { err = outcome.err; ret0 = outcome.ret0; ret1 = outcome.ret1; place = record { 0 = place } }
-
--- an operation was performed: its entry stands at the end of the journal, and its answer is told
-pub record Performs (old : List Entry) (next : Option Entry) (answer : Answer) (new : List Entry) : Type 0 where
-  pub entry : Entry
-  pub is : next ≡ Some entry
-  pub told : answer ≡ answer_at entry.outcome (length old)
-  pub journal : new ≡ old ++ entry ∷ []
+-- a handshake was performed as this entry: its process, and the journal after it
+abbrev pub Attaches : List Entry → Option Entry → Pid → List Entry → Type 0
+Attaches old None pid new = ⊥
+Attaches old (Some e) pid new = (pid ≡ record { 0 = e.outcome.ret0 }) × (new ≡ old ++ e ∷ [])

@@ -1,8 +1,6 @@
-pub mod Connection
-pub mod Verdict
+pub mod Room
+pub mod Calls
 pub mod Kernel
-pub mod Step
-pub mod Machine
-pub mod Task
-pub mod Sound
-pub mod Run
+pub mod At
+pub mod Outs
+pub mod Work

@@ -1,27 +1,17 @@
-ghost use Rattle.std.specs.Prelude.{◌≡◌, List, IfSome, IsSome};
-ghost use Rattle.std.specs.List.{AllByRecursion};
-ghost use Rattle.sp_frames.specs.Grammar.{Fits};
-ghost use Rattle.kern_model.specs.declared.journal.Entry.{Entry};
-ghost use Rattle.kern_model.specs.declared.journal.Who.TheVariants.{Request};
-ghost use Rattle.kern_model.specs.declared.operation.Op.TheVariants as op;
-ghost use Rattle.kern_model.specs.Journal.{next_entry, state_after};
-ghost use Rattle.sp_base.specs.Table.{at};
-ghost use Rattle.sp_hub.specs.Connection.{process_in};
-ghost use Rattle.sp_hub.specs.Step.{StepsOrStays, frame_takes, attach_step, open_step, frame_step, hello, no_process, nothing_read};
+ghost use Rattle.std.specs.Prelude.{◌≡◌, ◌<◌, ◌≤◌, length, true, IfSome};
+ghost use Rattle.sp_base.specs.declared.limits.TheConstants.{TRANSFER};
+ghost use Rattle.sp_frames.specs.Fields.{IsBytes};
+ghost use Rattle.sp_frames.specs.Grammar.{Fits, may_be_refused};
+ghost use Rattle.sp_frames.specs.declared.frame.Body.TheVariants as body;
+ghost use Rattle.sp_frames.specs.declared.frame.TheConstants.{INDEX_LIMIT};
+ghost use Rattle.hub_model.specs.Frames.{answer_at, ask, hello, refusal, last_error, answered_kind};
 
-use crate::connection::{Condition, Connection, OpenCall};
-use crate::event::Reply;
-use crate::kernel::{self, Acted};
-use crate::refusals::{answered_kind, drain, last_error, refuse};
-use crate::room::take_room;
-use crate::verdict::{self, Verdict};
-use kern_calls::Kernel;
-use kern_model::{Ins, Op, Who};
-use sp_base::{Call, Items, Pid, ReqNo, SpError};
+use kern_model::Outcome;
+use sp_base::{Answer, Need, Octets, Pid, Place, ReqNo, SpError};
 use sp_frames::{Body, Frame};
 
 /// The response of a handshake.
-fn hello(number: ReqNo, pid: Pid) -> Frame
+pub(crate) fn hello(number: ReqNo, pid: Pid) -> Frame
     ensures frame { result ≡ hello number pid.0 }
     ensures fits { Fits result }
 {
@@ -31,85 +21,104 @@ fn hello(number: ReqNo, pid: Pid) -> Frame
     }
 }
 
-/// Performs a handshake: makes the connection's process and queues the response.
-fn attach(kernel: &mut Kernel, connection: &mut Connection, frame: &Frame) -> Reply
-    ensures step { StepsOrStays frame_takes
-        (attach_step kernel.old.items connection.old frame.now
-        (next_entry kernel.old.items no_process
-        (Request connection.old.no frame.now.number) op.Attach nothing_read)) kernel.old.items connection.old result kernel.new.items connection.new }
-    ensures fit { AllByRecursion Fits connection.old.queue
-        → AllByRecursion Fits connection.new.queue }
+/// An ask for what a call reads, by its index.
+pub(crate) fn ask(number: ReqNo, index: u32, need: Need) -> Frame
+    requires { index < INDEX_LIMIT }
+    ensures frame { result ≡ ask number index need }
+    ensures fits { Fits result }
 {
-    let number = frame.number;
-    let alloc = kernel.alloc();
-    let Some(queue) = take_room(alloc, &mut connection.queue) else {
-        return Reply::NoMemory;
+    let body = match need {
+        Need::Bytes(addr, len) => Body::AskBytes { index, addr, len },
+        Need::Text(addr, limit) => Body::AskText {
+            index,
+            addr,
+            max: limit,
+        },
     };
-    let who = Who::Request(connection.no, number);
-    match kernel::act(
-        kernel,
-        Pid(0),
-        who,
-        Op::Attach,
-        Ins::Given(Items::none(alloc)),
-    ) {
-        Acted::Done(answer) => {
-            let pid = Pid(answer.ret0 as u32);
-            connection.condition = Condition::Live(pid);
-            connection.last = number;
-            connection.queue = queue.with(hello(number, pid));
-            Reply::Done
-        }
-        Acted::NotReady => {
-            connection.queue = queue.without();
-            Reply::NotReady
-        }
-        Acted::NoMemory => {
-            connection.queue = queue.without();
-            Reply::NoMemory
-        }
+    Frame { number, body }
+}
+
+/// The type of a request that an error frame may answer; None for every other frame.
+pub(crate) fn answered_kind(body: &Body) -> Option<u16>
+    ensures kind { result ≡ answered_kind body.now }
+    ensures fits { IfSome result (λ kind. may_be_refused kind ≡ true) }
+{
+    match body {
+        Body::Guest { .. } | Body::Join { .. } | Body::Image { .. } => Some(0),
+        Body::Sys { .. } => Some(1),
+        Body::Prefork | Body::Cancel { .. } => Some(5),
+        Body::Preexec => Some(6),
+        _ => None,
     }
 }
 
-/// Opens a call, whatever the journal.
-fn open(connection: &mut Connection, frame: &Frame, call: Call) -> Reply
-    ensures step { (journal : List Entry)
-        → StepsOrStays frame_takes
-        (open_step journal connection.old frame.now call) journal connection.old result journal connection.new }
-    ensures queue { connection.new.queue ≡ connection.old.queue }
+/// An error frame.
+pub(crate) fn refusal(number: ReqNo, kind: u16, why: SpError) -> Frame
+    requires { may_be_refused kind ≡ true }
+    ensures frame { result ≡ refusal number kind why }
+    ensures fits { Fits result }
 {
-    let number = frame.number;
-    match connection.calls.push(OpenCall { number, call }) {
-        Ok(()) => {
-            connection.last = number;
-            Reply::Task(number)
-        }
-        Err(_) => Reply::NoMemory,
+    Frame {
+        number,
+        body: Body::Refused { kind, why },
     }
 }
 
-/// A frame comes over a connection.
-pub fn frame(kernel: &mut Kernel, connection: &mut Connection, frame: &Frame) -> Reply
-    requires live { IfSome (process_in connection.old.condition)
-        (λ pid. IsSome (at (state_after kernel.old.items).processes pid.0)) }
-    ensures step { StepsOrStays frame_takes
-        (frame_step kernel.old.items connection.old frame.now) kernel.old.items connection.old result kernel.new.items connection.new }
-    ensures fit { AllByRecursion Fits connection.old.queue
-        → AllByRecursion Fits connection.new.queue }
+/// The last error of a connection: it answers the request that is malformed, or nothing by name.
+pub(crate) fn last_error(number: ReqNo, kind: Option<u16>) -> Frame
+    requires { IfSome kind (λ kind. may_be_refused kind ≡ true) }
+    ensures frame { result ≡ last_error number kind }
+    ensures fits { Fits result }
 {
-    match verdict::on_frame(kernel, connection, frame) {
-        Verdict::Closed => Reply::Closed,
-        Verdict::Malformed => {
-            let error = last_error(frame.number, answered_kind(&frame.body));
-            drain(
-                kernel,
-                connection,
-                Reply::Refused(SpError::Malformed),
-                error,
-            )
-        }
-        Verdict::Refused(why) => refuse(kernel, connection, frame, why),
-        Verdict::Attach => attach(kernel, connection, frame),
-        Verdict::Open(call) => open(connection, frame, call),
+    match kind {
+        Some(kind) => refusal(number, kind, SpError::Malformed),
+        None => refusal(ReqNo(0), 0, SpError::Malformed),
     }
+}
+
+/// The bytes of a piece to write, by the piece's index.
+pub(crate) fn put(number: ReqNo, index: u32, addr: u64, bytes: Octets) -> Frame
+    requires index { index < INDEX_LIMIT }
+    requires some { 0 < length bytes }
+    requires few { length bytes ≤ TRANSFER }
+    requires bytes { IsBytes bytes }
+    ensures frame { result ≡ record { number = number; body = body.Put index addr bytes } }
+    ensures fits { Fits result }
+{
+    Frame {
+        number,
+        body: Body::Put { index, addr, bytes },
+    }
+}
+
+/// What a call answered, with its place in the journal.
+fn answer_of(outcome: &Outcome, place: Place) -> Answer
+    ensures { result ≡ answer_at outcome.now place.0 }
+{
+    Answer {
+        err: outcome.err,
+        ret0: outcome.ret0,
+        ret1: outcome.ret1,
+        place,
+    }
+}
+
+/// The response of a call.
+fn response(number: ReqNo, answer: Answer) -> Frame
+    ensures frame { result ≡ record { number = number; body = body.Answered answer } }
+    ensures fits { Fits result }
+{
+    Frame {
+        number,
+        body: Body::Answered(answer),
+    }
+}
+
+/// The response of a call, with its place in the journal.
+pub(crate) fn answered(number: ReqNo, outcome: &Outcome, place: Place) -> Frame
+    ensures frame { result
+        ≡ record { number = number; body = body.Answered (answer_at outcome.now place.0) } }
+    ensures fits { Fits result }
+{
+    response(number, answer_of(outcome, place))
 }

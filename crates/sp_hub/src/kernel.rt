@@ -1,53 +1,48 @@
-ghost use Rattle.std.specs.Prelude.{◌≡◌, ◌<◌, length, slice_get, Some, None};
-ghost use Rattle.kern_model.specs.Journal.{FitsPid, state_after, next_entry};
-ghost use Rattle.kern_model.specs.Needs.{FitsIns};
-ghost use Rattle.sp_base.specs.declared.names.Answer.{Answer};
-ghost use Rattle.sp_hub.specs.Kernel.{Performs, answer_at};
+ghost use Rattle.std.specs.Prelude.{◌≡◌, Some, IfOk, OnErr, IsSome};
+ghost use Rattle.sp_base.specs.Table.{at};
+ghost use Rattle.kern_model.specs.Journal.{next_entry, state_after};
+ghost use Rattle.kern_model.specs.declared.journal.Who.TheVariants.{Request};
+ghost use Rattle.kern_model.specs.declared.operation.Op.TheVariants as op;
+ghost use Rattle.sp_hub.specs.Kernel.{Attaches};
+ghost use Rattle.sp_hub.specs.Room.{HasExitRoom};
+ghost use Rattle.hub_model.specs.Ends.{nothing_read, exit_of};
+ghost use Rattle.hub_model.specs.Requests.{no_process};
 
-use kern_calls::Kernel;
-use kern_model::{Entry, Ins, Op, Who};
-use sp_base::{Answer, Pid, Place};
+use kern_calls::{Acted, Kernel};
+use kern_model::{Ins, Op, Who};
+use sp_base::{ConnNo, Items, NoMemory, Pid, ReqNo};
 
-/// What became of an operation.
-#[derive(Clone, Copy, Debug, PartialEq, Eq)]
-pub enum Acted {
-    /// It was performed, and this is its answer.
-    Done(Answer),
-    /// It waits, and nothing changed.
-    NotReady,
-    /// Memory was refused, and nothing changed.
-    NoMemory,
-}
-
-/// The answer that an entry tells, with its place.
-fn answer_of(entry: &Entry, place: Place) -> Answer
-    ensures { result ≡ answer_at entry.now.outcome place.0 }
+/// Ends the process of a connection, in the room that is kept for it; takes no memory.
+pub(crate) fn exit(kernel: &mut Kernel, no: ConnNo, pid: Pid)
+    requires live { IsSome (at (state_after kernel.old.items).processes pid.0) }
+    requires room { HasExitRoom kernel.old }
+    ensures journal { kernel.new.items ≡ exit_of kernel.old.items no (Some pid) }
+    ensures room { HasExitRoom kernel.new }
 {
-    Answer {
-        err: entry.outcome.err,
-        ret0: entry.outcome.ret0,
-        ret1: entry.outcome.ret1,
-        place,
+    let ins = Ins::Given(Items::none(kernel.alloc()));
+    match kernel.act(pid, Who::End(no), Op::Exit, ins) {
+        Acted::Done(_) => {}
+        Acted::NotReady => {}
+        Acted::NoMemory => unreachable!(),
     }
 }
 
-/// Performs an operation as one entry more, and tells its answer.
-pub fn act(kernel: &mut Kernel, pid: Pid, who: Who, op: Op, ins: Ins) -> Acted
-    requires process { FitsPid (state_after kernel.old.items) pid.0 op }
-    requires ins { FitsIns op ins }
-    ensures done { (answer : Answer) → result ≡ Acted.Done answer
-        → Performs kernel.old.items
-        (next_entry kernel.old.items pid who op ins) answer kernel.new.items }
-    ensures waits { result ≡ Acted.NotReady
-        → (next_entry kernel.old.items pid who op ins ≡ None) × (kernel.new ≡ kernel.old) }
-    ensures no_memory { result ≡ Acted.NoMemory → kernel.new ≡ kernel.old }
+/// Makes the process of a connection, and keeps room for its exit. An error leaves the journal as it was.
+pub(crate) fn attach(kernel: &mut Kernel, no: ConnNo, number: ReqNo) -> Result<Pid, NoMemory>
+    requires room { HasExitRoom kernel.old }
+    ensures ok { IfOk result (λ pid. Attaches kernel.old.items
+        (next_entry kernel.old.items no_process (Request no number) op.Attach nothing_read) pid kernel.new.items) }
+    ensures err { OnErr result (kernel.new.items ≡ kernel.old.items) }
+    ensures room { HasExitRoom kernel.new }
 {
-    match kernel.act(pid, who, op, ins) {
-        kern_calls::Acted::Done(place) => match kernel.journal().last() {
-            Some(entry) => Acted::Done(answer_of(entry, place)),
+    kernel.reserve(kernel.processes() + 1)?;
+    let ins = Ins::Given(Items::none(kernel.alloc()));
+    match kernel.act(Pid(0), Who::Request(no, number), Op::Attach, ins) {
+        Acted::Done(_) => match kernel.journal().last() {
+            Some(entry) => Ok(Pid(entry.outcome.ret0 as u32)),
             None => unreachable!(),
         },
-        kern_calls::Acted::NotReady => Acted::NotReady,
-        kern_calls::Acted::NoMemory => Acted::NoMemory,
+        Acted::NotReady => unreachable!(),
+        Acted::NoMemory => Err(NoMemory),
     }
 }

@@ -1,21 +1,20 @@
 //! The server's core: a machine that takes events of many connections, and performs their calls on one kernel.
 #![tactic(auto)]
 
+mod blank;
 mod connection;
-mod ends;
-mod event;
 mod frames;
+mod gathered;
 mod hub;
 mod kernel;
-mod refusals;
-mod room;
-mod tasks;
+mod machine;
+mod requests;
+mod telling;
 #[cfg(test)]
 mod tests;
 mod verdict;
 mod work;
 
-pub use connection::{Condition, Connection, OpenCall};
-pub use event::{Event, Finish, Reply};
 pub use hub::Hub;
-pub use verdict::Verdict;
+pub use hub_model::{Condition, Event, Finish, OPEN_CALLS, OpenCall, Reply, Verdict};
+pub use sp_frames::Version;

@@ -1,5 +1,7 @@
 pub mod Octets
+pub mod Works
 pub mod Shrinking
+pub mod Refusing
 pub mod Rounds
 pub mod SessionLaws
 pub mod RunLaws

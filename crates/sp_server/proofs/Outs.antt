@@ -1,11 +1,11 @@
 -- Something is to be written for every input, and what is written for its first frames begins it.
-use Rattle.std.proofs.Common.{◌≡◌, ◌⊎◌, inl, inr, ℕ, zero, suc, ◌+◌, ◌-◌, ◌≤◌, ◌<◌, Bool, true, false, List, [], ◌∷◌, ◌++◌, length, take, drop, Option, Some, None, refl, sym, ap, subst, ◌∙◌, arith, append_assoc, length-append}
+use Rattle.std.proofs.Common.{◌≡◌, ◌⊎◌, inl, inr, ℕ, zero, suc, ◌+◌, ◌-◌, ◌≤◌, ◌<◌, Bool, true, false, cond, List, [], ◌∷◌, ◌++◌, length, take, drop, Option, Some, None, refl, sym, ap, subst, ◌∙◌, arith, append_assoc, length-append}
 use Rattle.std.proofs.lemmas.Bool.{cases_lt}
-use Rattle.std.proofs.lemmas.Bool.Decides.{nat_tests}
 use Rattle.std.proofs.lemmas.List.{take_min, take-append-le, length-drop}
-use Rattle.std.proofs.lemmas.List.Sums.{sum_by-cons}
-use Rattle.std.specs.Prelude.{◌==◌, ◌||◌, nat_lt, min, remove, slice_get, sum_by}
-use Rattle.std.specs.List.{flat_map, list_any}
+use Rattle.std.specs.Prelude.{min}
+use Rattle.std.specs.List.{flat_map}
+use Rattle.std.specs.Ordering.{nat_cmp}
+use Rattle.std.specs.FinMap.{FinMap, get}
 use Rattle.sp_base.specs.declared.names.ConnNo.{ConnNo}
 use Rattle.sp_base.specs.declared.names.ReqNo.{ReqNo}
 use Rattle.sp_frames.specs.declared.fault.FrameFault.{FrameFault}
@@ -19,179 +19,159 @@ use Rattle.sp_frames.specs.Banner.{banner}
 use Rattle.sp_frames.specs.Grammar.{spelling}
 use Rattle.sp_frames.specs.Reading.{step_of}
 use Rattle.sp_frames.specs.Stream.{IsWhole}
-use Rattle.sp_frames.proofs.StreamLaws.{front, stream-append, each-append, one_whole}
-use Rattle.sp_hub.specs.declared.connection.Connection.{Connection}
-use Rattle.sp_hub.specs.declared.connection.OpenCall.{OpenCall}
-use Rattle.sp_hub.specs.declared.event.Event.TheVariants as event
-use Rattle.sp_hub.specs.declared.event.Finish.{Finish}
-use Rattle.sp_hub.specs.declared.event.Finish.TheVariants as finish
-use Rattle.sp_hub.specs.declared.event.Reply.{Reply}
-use Rattle.sp_hub.specs.declared.event.Reply.TheVariants as reply
-use Rattle.sp_hub.specs.Machine.{Machine, place_of}
-use Rattle.sp_hub.specs.Task.{IsOpen, IsLowest, calls_in, calls_at, open_calls}
-use Rattle.sp_hub.proofs.Lists.{all_map}
-use Rattle.sp_server.specs.Serving.{reply_to, after, is_out, worked, performs, AreOpen, AreRounds, HandsOut}
-use Rattle.sp_server.specs.Session.{IsBegun, IsPart}
-use Rattle.sp_server.specs.Stdio.{connection, at_start, salt_for, salts_behind, AnswersFrame, Answers, EndsAs, IsStdioOut, IsCutOff}
-use Rattle.sp_server.proofs.EndLaws.{text_begins}
+use Rattle.sp_frames.proofs.StreamLaws.{front, stream-append, each-append}
+use Rattle.hub_model.specs.Sound.{is_waiting}
+use Rattle.hub_model.specs.State.{Machine}
+use Rattle.hub_model.specs.Task.{Waits, IsLowest, open_calls}
+use Rattle.hub_model.specs.declared.event.Event.TheVariants as event
+use Rattle.hub_model.specs.declared.event.Finish.{Finish}
+use Rattle.hub_model.specs.declared.event.Finish.TheVariants as finish
+use Rattle.hub_model.specs.declared.event.Reply.{Reply}
+use Rattle.hub_model.specs.declared.event.Reply.TheVariants as reply
+use Rattle.hub_model.specs.declared.state.OpenCall.{OpenCall}
+use Rattle.tables.proofs.Maps.{same_or_not}
+use Rattle.sp_server.specs.Serving.{Server, server_of, reply_to, after, refused_behind, work_reply, after_work, is_out, worked, performs, AreOpen, AreRounds, HandsOut}
+use Rattle.sp_server.specs.Session.{IsBegun, IsAllOf, IsPart}
+use Rattle.sp_server.specs.Stdio.{connection, at_start, salt_for, salts_behind, AnswersFrame, Answers, IsAnswered, EndsAs, IsStdioOut, IsCutOff}
+use Rattle.sp_server.specs.Waiting.{waits_at, bound, waiting}
 use Rattle.sp_server.proofs.Octets.{bytes-back, bytes-drop}
-use Rattle.sp_server.proofs.Shrinking.{queued, open_total, taken_less, worked_by_weight, round_less}
+use Rattle.sp_server.proofs.Shrinking.{queued, taken_less, within, work_waits, round_less}
+
+some_same : (a b : OpenCall) → Some a ≡ Some b → a ≡ b
+some_same a b e = let same : a ≡ b = cc in same
 
 -- ---- a round of work
 
-either : (a b : Bool) → b ≡ true → (a || b) ≡ true
-either true b e = refl
-either false b e = e
+-- a call that waits is above a number, or the number is its own or a higher one
+by_number : (calls : FinMap nat_cmp OpenCall) (n : ℕ) (task : Option OpenCall) → get calls n ≡ task → Waits calls n ⊎ (Waits calls n → ⊥)
+by_number calls n None h = inr (λ w. let no : None ≡ Some w.0 = sym h ∙ w.1 in cc)
+by_number calls n (Some task) h = by_wait (is_waiting task) refl where
+  by_wait : (waits : Bool) → is_waiting task ≡ waits → Waits calls n ⊎ (Waits calls n → ⊥)
+  by_wait true is = inl (task, h, is)
+  by_wait false is = inr (λ w. let same : task ≡ w.0 = some_same task w.0 (sym h ∙ w.1) in let no : false ≡ true = sym is ∙ ap is_waiting same ∙ w.2 in cc)
 
-here : (n : ℕ) (rest : Bool) → ((n == n) || rest) ≡ true
-here n rest = grind (arith, nat_tests)
+waits_or_not : (calls : FinMap nat_cmp OpenCall) (n : ℕ) → Waits calls n ⊎ (Waits calls n → ⊥)
+waits_or_not calls n = by_number calls n (get calls n) refl
+
+-- a call is the lowest above a number that waits, up to another one
+record LowestTo (calls : FinMap nat_cmp OpenCall) (low n : ℕ) : Type 0 where
+  number : ℕ
+  above : low < number
+  within : number ≤ n
+  waits : Waits calls number
+  least : (k : ℕ) → Waits calls k → k ≤ n → (k ≤ low) ⊎ (number ≤ k)
+
+-- up to a number, there is a lowest call or none
+lowest_to : (calls : FinMap nat_cmp OpenCall) (low n : ℕ) → ((k : ℕ) → Waits calls k → k ≤ n → k ≤ low) ⊎ LowestTo calls low n
+lowest_to calls low zero = inl (λ k w le. omega arith)
+lowest_to calls low (suc n) = with_rest (lowest_to calls low n) (waits_or_not calls (suc n)) (cases_lt low (suc n))
+  where
+    up_to : (P : ℕ → Type 0) (k : ℕ) → k ≤ suc n → (k ≤ n → P k) → P (suc n) → P k
+    up_to P k le few last = elim (same_or_not k (suc n)) [ inl same ↦ subst P (sym same) last | inr ne ↦ few (omega arith) ]
+
+    with_rest : ((k : ℕ) → Waits calls k → k ≤ n → k ≤ low) ⊎ LowestTo calls low n → Waits calls (suc n) ⊎ (Waits calls (suc n) → ⊥) → (low < suc n) ⊎ (suc n ≤ low)
+        → ((k : ℕ) → Waits calls k → k ≤ suc n → k ≤ low) ⊎ LowestTo calls low (suc n)
+    with_rest (inl none) (inr not) lt = inl (λ k w le. up_to (λ j. Waits calls j → j ≤ low) k le (λ few v. none k v few) (λ v. absurd (not v)) w)
+    with_rest (inl none) (inl waits) (inr few) = inl (λ k w le. up_to (λ j. Waits calls j → j ≤ low) k le (λ less v. none k v less) (λ v. few) w)
+    with_rest (inl none) (inl waits) (inl more) = inr (record {
+      number = suc n;
+      above = more;
+      within = omega arith;
+      waits = waits;
+      least = λ k w le. up_to (λ j. Waits calls j → (j ≤ low) ⊎ (suc n ≤ j)) k le (λ less v. inl (none k v less)) (λ v. inr (omega arith)) w;
+    })
+    with_rest (inr one) waits lt = inr (record {
+      number = one.number;
+      above = one.above;
+      within = (let le = one.within in omega arith);
+      waits = one.waits;
+      least = λ k w le. up_to (λ j. Waits calls j → (j ≤ low) ⊎ (one.number ≤ j)) k le (λ less v. one.least k v less) (λ v. inr (let few = one.within in omega arith)) w;
+    })
 
 -- there is a lowest call above a number, or none
-some_lowest : (calls : List OpenCall) (above : ReqNo) → (found : Option ReqNo) × IsLowest calls above found
-some_lowest [] above = (None, tt)
-some_lowest (t ∷ calls) above = with_first (some_lowest calls above).0 (some_lowest calls above).1 (cases_lt above.0 t.number.0)
-  where
-    lower : (r : ReqNo) → above.0 < t.number.0 → IsLowest calls above (Some r) → (t.number.0 < r.0) ⊎ (r.0 ≤ t.number.0) → (found : Option ReqNo) × IsLowest (t ∷ calls) above found
-    lower r more low (inl less) = (
-      Some t.number,
-      (
-        more,
-        here t.number.0 _,
-        (inr (omega arith), all_map (λ u. (u.number.0 ≤ above.0) ⊎ (r.0 ≤ u.number.0)) (λ u. (u.number.0 ≤ above.0) ⊎ (t.number.0 ≤ u.number.0)) (λ u k. elim k [ inl le ↦ inl le | inr le ↦ inr (omega arith) ]) calls low.2),
-      ),
-    )
-    lower r more low (inr least) = (Some r, (low.0, either (t.number.0 == r.0) _ low.1, (inr least, low.2)))
-
-    with_first : (found : Option ReqNo) → IsLowest calls above found → (above.0 < t.number.0) ⊎ (t.number.0 ≤ above.0) → (found : Option ReqNo) × IsLowest (t ∷ calls) above found
-    with_first None low (inl more) = (
-      Some t.number,
-      (more, here t.number.0 _, (inr (omega arith), all_map (λ u. u.number.0 ≤ above.0) (λ u. (u.number.0 ≤ above.0) ⊎ (t.number.0 ≤ u.number.0)) (λ u le. inl le) calls low)),
-    )
-    with_first None low (inr few) = (None, (few, low))
-    with_first (Some r) low (inl more) = lower r more low (cases_lt t.number.0 r.0)
-    with_first (Some r) low (inr few) = (Some r, (low.0, either (t.number.0 == r.0) _ low.1, (inl few, low.2)))
-
-abbrev one : Bool → ℕ
-one true = 1
-one false = 0
-
--- how many calls are above a number
-abbrev above : ℕ → List OpenCall → ℕ
-above n [] = 0
-above n (t ∷ calls) = one (nat_lt n t.number.0) + above n calls
-
-above-remove : (n : ℕ) (calls : List OpenCall) (i : ℕ) → above n (remove calls i) ≤ above n calls
-above-remove n [] zero = omega arith
-above-remove n [] (suc i) = omega arith
-above-remove n (t ∷ calls) zero = omega arith
-above-remove n (t ∷ calls) (suc i) = let rest = above-remove n calls i in omega arith
-
-one_fewer : (a b n : ℕ) → a ≤ b → one (nat_lt b n) ≤ one (nat_lt a n)
-one_fewer a b n le = elim (cases_lt b n) [
-  | inl more ↦ (let first : nat_lt b n ≡ true = grind (arith, nat_tests) in let second : nat_lt a n ≡ true = grind (arith, nat_tests) in rw (first, second) (omega arith))
-  | inr few ↦ (let first : nat_lt b n ≡ false = grind (arith, nat_tests) in rw first (omega arith))
+some_lowest : (calls : FinMap nat_cmp OpenCall) (above : ReqNo) → (found : Option ReqNo) × IsLowest calls above found
+some_lowest calls above = elim (lowest_to calls above.0 (bound calls)) [
+  | inl none ↦ (None, λ k w. none k w (within calls k w.0 w.1))
+  | inr one ↦ (Some (record { 0 = one.number }), (one.above, one.waits, λ k w. one.least k w (within calls k w.0 w.1)))
 ]
 
-above_fewer : (a b : ℕ) (calls : List OpenCall) → a ≤ b → above b calls ≤ above a calls
-above_fewer a b [] le = omega arith
-above_fewer a b (t ∷ calls) le =
-    let first = one_fewer a b t.number.0 le in
-    let rest = above_fewer a b calls le in
-    omega arith
+-- a call that waits counts one, and no other does
+counts_one : (calls : FinMap nat_cmp OpenCall) (q : ℕ) → Waits calls q → waits_at (get calls q) ≡ 1
+counts_one calls q w = ap waits_at w.1 ∙ ap (λ b. cond b 1 0) w.2
 
--- a call of a number is above a lower number, and not above its own
-above_less : (a r : ℕ) (calls : List OpenCall) → a < r → IsOpen r calls → above r calls < above a calls
-above_less a r [] lt is = absurd cc
-above_less a r (t ∷ calls) lt is = by_first (t.number.0 == r) refl is (λ is. above_less a r calls lt is)
+counted : (calls : FinMap nat_cmp OpenCall) (q : ℕ) (task : Option OpenCall) → get calls q ≡ task → 0 < waits_at task → Waits calls q
+counted calls q None is lt = absurd (omega arith)
+counted calls q (Some task) is lt = by_wait (is_waiting task) refl lt where
+  by_wait : (waits : Bool) → is_waiting task ≡ waits → 0 < cond waits 1 0 → Waits calls q
+  by_wait true e lt = (task, is, e)
+  by_wait false e lt = absurd (omega arith)
+
+-- a call that waits after a Work waited before it
+waited : (m : Machine) (c : ConnNo) (r : ReqNo) (q : ℕ) → Waits (open_calls (after m (event.Work c r)) c) q → Waits (open_calls m c) q
+waited m c r q w =
+    let now = counts_one (open_calls (after m (event.Work c r)) c) q w in
+    let few = work_waits true m c r q in
+    counted (open_calls m c) q (get (open_calls m c) q) refl (omega arith)
+
+round_above : (fuel highest : ℕ) (m : Machine) (c : ConnNo) (low : ReqNo) → ((k : ℕ) → Waits (open_calls m c) k → k ≤ highest) → highest ≤ low.0 + fuel
+    → (numbers : List ReqNo) × AreOpen (server_of m []) c low numbers
+round_above zero highest m c low below le = ([], λ k w. (let few = below k w in omega arith))
+round_above (suc fuel) highest m c low below le = by_lowest (some_lowest (open_calls m c) low).0 (some_lowest (open_calls m c) low).1 (λ n r under few. round_above fuel highest n c r under few)
   where
-    by_first : (same : Bool) → (t.number.0 == r) ≡ same → (same || list_any (λ (u : OpenCall). u.number.0 == r) calls) ≡ true → (IsOpen r calls → above r calls < above a calls) → above r (t ∷ calls) < above a (t ∷ calls)
-    by_first true e is less =
-        let number : t.number.0 ≡ r = grind (arith, nat_tests) in
-        let first : nat_lt r t.number.0 ≡ false = grind (arith, nat_tests) in
-        let second : nat_lt a t.number.0 ≡ true = grind (arith, nat_tests) in
-        let rest = above_fewer a r calls (omega arith) in
-        rw (first, second) (omega arith)
-    by_first false e is less =
-        let first = one_fewer a r t.number.0 (omega arith) in
-        let rest = less is in
-        omega arith
-
-sum_all : (f g : Connection → ℕ) → ((x : Connection) → f x ≤ g x) → (xs : List Connection) → sum_by f xs ≤ sum_by g xs
-sum_all f g le [] = omega arith
-sum_all f g le (x ∷ xs) =
-    let first = le x in
-    let rest = sum_all f g le xs in
-    let few : sum_by f (x ∷ xs) ≤ sum_by g (x ∷ xs) = rw (sum_by-cons f x xs, sum_by-cons g x xs) (omega arith) in
-    few
-
-sum_some : (f g : Connection → ℕ) → ((x : Connection) → f x ≤ g x) → (xs : List Connection) (i : ℕ) (x : Connection) → slice_get xs i ≡ Some x → f x < g x → sum_by f xs < sum_by g xs
-sum_some f g le [] i x at lt = absurd cc
-sum_some f g le (y ∷ xs) zero x at lt =
-    let e : y ≡ x = cc in
-    let first : f y < g y = subst (λ (z : Connection). f z < g z) (sym e) lt in
-    let rest = sum_all f g le xs in
-    let less : sum_by f (y ∷ xs) < sum_by g (y ∷ xs) = rw (sum_by-cons f y xs, sum_by-cons g y xs) (omega arith) in
-    less
-sum_some f g le (y ∷ xs) (suc i) x at lt =
-    let first = le y in
-    let rest = sum_some f g le xs i x at lt in
-    let less : sum_by f (y ∷ xs) < sum_by g (y ∷ xs) = rw (sum_by-cons f y xs, sum_by-cons g y xs) (omega arith) in
-    less
-
--- how many calls of all connections are above a number
-abbrev above_total : ℕ → Machine → ℕ
-above_total n m = sum_by (λ x. above n x.calls) m.connections
-
-open_less : (xs : List Connection) (place : Option ℕ) (a r : ℕ) → a < r → IsOpen r (calls_at xs place) → sum_by (λ x. above r x.calls) xs < sum_by (λ x. above a x.calls) xs
-open_less xs None a r lt is = absurd cc
-open_less xs (Some i) a r lt is = found (slice_get xs i) refl is
-  where
-    found : (x : Option Connection) → slice_get xs i ≡ x → IsOpen r (calls_in x) → sum_by (λ x. above r x.calls) xs < sum_by (λ x. above a x.calls) xs
-    found None at is = absurd cc
-    found (Some x) at is = sum_some (λ x. above r x.calls) (λ x. above a x.calls) (λ x. above_fewer a r x.calls (omega arith)) xs i x at (above_less a r x.calls lt is)
-
-round_above : (fuel : ℕ) (m : Machine) (c : ConnNo) (low : ReqNo) → above_total low.0 m < fuel → (numbers : List ReqNo) × AreOpen m c low numbers
-round_above zero m c low lt = absurd (omega arith)
-round_above (suc fuel) m c low lt = by_lowest (some_lowest (open_calls m c) low).0 (some_lowest (open_calls m c) low).1 (λ n r fewer. round_above fuel n c r fewer)
-  where
-    by_lowest : (found : Option ReqNo) → IsLowest (open_calls m c) low found → ((n : Machine) (r : ReqNo) → above_total r.0 n < fuel → (numbers : List ReqNo) × AreOpen n c r numbers) → (numbers : List ReqNo) × AreOpen m c low numbers
+    by_lowest : (found : Option ReqNo) → IsLowest (open_calls m c) low found
+        → ((n : Machine) (r : ReqNo) → ((k : ℕ) → Waits (open_calls n c) k → k ≤ highest) → highest ≤ r.0 + fuel → (numbers : List ReqNo) × AreOpen (server_of n []) c r numbers)
+        → (numbers : List ReqNo) × AreOpen (server_of m []) c low numbers
     by_lowest None is next = ([], is)
     by_lowest (Some r) is next =
-        let fewer = open_less m.connections (place_of m.connections c) low.0 r.0 is.0 is.1 in
-        let kept = worked_by_weight (above r.0) (above-remove r.0) m c r in
-        let rest = next (after m (event.Work c r)) r (omega arith) in
+        let more : low.0 < r.0 = is.0 in
+        let rest = next (after m (event.Work c r)) r (λ k w. below k (waited m c r k w)) (omega arith) in
         (r ∷ rest.0, (is, rest.1))
 
-some_round : (m : Machine) (c : ConnNo) (low : ReqNo) → (numbers : List ReqNo) × AreOpen m c low numbers
-some_round m c low = round_above (suc (above_total low.0 m)) m c low (omega arith)
+some_round : (m : Machine) (c : ConnNo) → (numbers : List ReqNo) × AreOpen (server_of m []) c (record { 0 = 0 }) numbers
+some_round m c =
+    let highest = bound (open_calls m c) in
+    round_above highest highest m c (record { 0 = 0 }) (λ k w. within (open_calls m c) k w.0 w.1) (omega arith)
+
+-- where no call is still to be refused, none is after work
+none_refused : (s : Server) (c : ConnNo) (numbers : List ReqNo) → s.refused ≡ [] → (worked s c numbers).refused ≡ []
+none_refused s c [] none = none
+none_refused s c (r ∷ numbers) none = none_refused (after_work s c r) c numbers (ap (λ (l : List ReqNo). refused_behind l (work_reply s c r)) none)
+
+worked_is : (m : Machine) (c : ConnNo) (numbers : List ReqNo) → worked (server_of m []) c numbers ≡ server_of (worked (server_of m []) c numbers).machine []
+worked_is m c numbers = ap (λ (l : List ReqNo). server_of (worked (server_of m []) c numbers).machine l) (none_refused (server_of m []) c numbers refl)
 
 -- ---- rounds, and handing out
 
-rounds_by : (fuel : ℕ) (m : Machine) (c : ConnNo) → open_total m < fuel → (rounds : List (List ReqNo)) × (last : Machine) × AreRounds m c true rounds last
+rounds_by : (fuel : ℕ) (m : Machine) (c : ConnNo) → waiting m c < fuel → (rounds : List (List ReqNo)) × (last : Machine) × AreRounds (server_of m []) c true rounds (server_of last [])
 rounds_by zero m c lt = absurd (omega arith)
-rounds_by (suc fuel) m c lt = let round = some_round m c (record { 0 = 0 }) in by_again round.0 round.1 (performs m c round.0) refl (λ n fewer. rounds_by fuel n c fewer)
+rounds_by (suc fuel) m c lt = let round = some_round m c in by_again round.0 round.1 (performs (server_of m []) c round.0) refl (λ n fewer. rounds_by fuel n c fewer)
   where
-    by_again : (numbers : List ReqNo) → AreOpen m c (record { 0 = 0 }) numbers → (again : Bool) → performs m c numbers ≡ again → ((n : Machine) → open_total n < fuel → (rounds : List (List ReqNo)) × (last : Machine) × AreRounds n c true rounds last)
-        → (rounds : List (List ReqNo)) × (last : Machine) × AreRounds m c true rounds last
+    by_again : (numbers : List ReqNo) → AreOpen (server_of m []) c (record { 0 = 0 }) numbers → (again : Bool) → performs (server_of m []) c numbers ≡ again
+        → ((n : Machine) → waiting n c < fuel → (rounds : List (List ReqNo)) × (last : Machine) × AreRounds (server_of n []) c true rounds (server_of last []))
+        → (rounds : List (List ReqNo)) × (last : Machine) × AreRounds (server_of m []) c true rounds (server_of last [])
     by_again numbers are true e next =
-        let less = round_less m c numbers e in
-        let rest = next (worked m c numbers) (omega arith) in
-        (numbers ∷ rest.0, rest.1, (refl, are, subst (λ (again : Bool). AreRounds (worked m c numbers) c again rest.0 rest.1) (sym e) rest.2))
-    by_again numbers are false e next = (numbers ∷ [], worked m c numbers, (refl, are, (e, refl)))
+        let s = worked (server_of m []) c numbers in
+        let less = round_less (server_of m []) c numbers e in
+        let rest = next s.machine (omega arith) in
+        let on : AreRounds s c true rest.0 (server_of rest.1 []) = subst (λ (t : Server). AreRounds t c true rest.0 (server_of rest.1 [])) (sym (worked_is m c numbers)) rest.2 in
+        (numbers ∷ rest.0, rest.1, (refl, are, subst (λ (again : Bool). AreRounds s c again rest.0 (server_of rest.1 [])) (sym e) on))
+    by_again numbers are false e next = (numbers ∷ [], (worked (server_of m []) c numbers).machine, (refl, are, (e, sym (worked_is m c numbers))))
 
-some_rounds : (m : Machine) (c : ConnNo) → (rounds : List (List ReqNo)) × (last : Machine) × AreRounds m c true rounds last
-some_rounds m c = rounds_by (suc (open_total m)) m c (omega arith)
+some_rounds : (m : Machine) (c : ConnNo) → (rounds : List (List ReqNo)) × (last : Machine) × AreRounds (server_of m []) c true rounds (server_of last [])
+some_rounds m c = rounds_by (suc (waiting m c)) m c (omega arith)
 
-hands_by : (fuel : ℕ) (m : Machine) (c : ConnNo) → queued m < fuel → (frames : List Frame) × (last : Machine) × HandsOut m c frames last
+hands_by : (fuel : ℕ) (m : Machine) (c : ConnNo) → queued m c < fuel → (frames : List Frame) × (last : Machine) × HandsOut m c frames last
 hands_by zero m c lt = absurd (omega arith)
 hands_by (suc fuel) m c lt = by_reply (reply_to m (event.Take c)) refl (λ n fewer. hands_by fuel n c fewer)
   where
-    by_reply : (r : Reply) → reply_to m (event.Take c) ≡ r → ((n : Machine) → queued n < fuel → (frames : List Frame) × (last : Machine) × HandsOut n c frames last) → (frames : List Frame) × (last : Machine) × HandsOut m c frames last
+    by_reply : (r : Reply) → reply_to m (event.Take c) ≡ r → ((n : Machine) → queued n c < fuel → (frames : List Frame) × (last : Machine) × HandsOut n c frames last) → (frames : List Frame) × (last : Machine) × HandsOut m c frames last
     by_reply (reply.Out f) e next =
         let less = taken_less m c (ap is_out e) in
         let rest = next (after m (event.Take c)) (omega arith) in
         (f ∷ rest.0, rest.1, (e, rest.2))
     by_reply (reply.Task r) e next = ([], after m (event.Take c), (ap is_out e, refl))
+    by_reply reply.Asked e next = ([], after m (event.Take c), (ap is_out e, refl))
+    by_reply reply.AwaitsAnswer e next = ([], after m (event.Take c), (ap is_out e, refl))
     by_reply reply.NotReady e next = ([], after m (event.Take c), (ap is_out e, refl))
     by_reply reply.Done e next = ([], after m (event.Take c), (ap is_out e, refl))
     by_reply reply.Nothing e next = ([], after m (event.Take c), (ap is_out e, refl))
@@ -201,19 +181,25 @@ hands_by (suc fuel) m c lt = by_reply (reply_to m (event.Take c)) refl (λ n few
     by_reply reply.NoMemory e next = ([], after m (event.Take c), (ap is_out e, refl))
 
 some_hands : (m : Machine) (c : ConnNo) → (frames : List Frame) × (last : Machine) × HandsOut m c frames last
-some_hands m c = hands_by (suc (queued m)) m c (omega arith)
+some_hands m c = hands_by (suc (queued m c)) m c (omega arith)
 
 -- ---- answers
 
-some_answers : (frames : List Frame) (m : Machine) (salts : List ℕ) → (text : List ℕ) × (last : Machine) × Answers m frames salts text last
+some_answers : (frames : List Frame) (m : Machine) (salts : List ℕ) → (text : List ℕ) × (last : Machine) × Answers (server_of m []) frames salts text (server_of last [])
 some_answers [] m salts = ([], m, (refl, refl))
 some_answers (f ∷ frames) m salts =
     let rounds = some_rounds (after m (event.Frame connection f (salt_for f salts))) connection in
     let hands = some_hands rounds.1 connection in
-    let one : AnswersFrame m f (salt_for f salts) (flat_map spelling hands.0) hands.1 =
-    record { rounds = rounds.0; worked = rounds.1; frames = hands.0; works = rounds.2; hands = hands.2; spelled = refl } in
+    let one : AnswersFrame (server_of m []) f (salt_for f salts) (flat_map spelling hands.0) (server_of hands.1 []) =
+    record { rounds = rounds.0; worked = server_of rounds.1 []; frames = hands.0; works = rounds.2; hands = hands.2; left = refl; spelled = refl } in
     let rest = some_answers frames hands.1 (salts_behind f salts) in
-    (flat_map spelling hands.0 ++ rest.0, rest.1, (hands.1, flat_map spelling hands.0, rest.0, one, rest.2, refl))
+    (flat_map spelling hands.0 ++ rest.0, rest.1, (server_of hands.1 [], flat_map spelling hands.0, rest.0, one, rest.2, refl))
+
+-- what is written for frames, and then for others
+answers_then : (frames later : List Frame) (s t u : Server) (text more : List ℕ) → Answers s frames [] text t → Answers t later [] more u → Answers s (frames ++ later) [] (text ++ more) u
+answers_then [] later s t u text more a b = subst (λ (l : List ℕ). Answers s later [] (l ++ more) u) (sym a.0) (subst (λ (v : Server). Answers v later [] more u) a.1 b)
+answers_then (f ∷ frames) later s t u text more a b =
+    (a.0, a.1, a.2 ++ more, a.3, answers_then frames later a.0 t u a.2 more a.4 b, ap (λ (l : List ℕ). l ++ more) a.5 ∙ append_assoc a.1 a.2 more)
 
 -- ---- the whole frames of bytes, and what stands behind them
 
@@ -258,77 +244,99 @@ some_finish [] None met = (finish.Clean, refl)
 some_finish (b ∷ rest) None met = (finish.Inside, ((λ e. absurd cc), met))
 some_finish rest (Some fault) met = (finish.Bad fault, met)
 
--- something is to be written for the input, and its beginning is what is written for its first frames
-out_of_split : (input salts : List ℕ) → Split input → (how : Finish) × (offset : ℕ) × (whole : List ℕ) × IsStdioOut input salts how offset whole
-out_of_split input salts split =
-    let answers = some_answers split.frames at_start salts in
-    let how = some_finish split.rest split.stop split.met in
-    let hands = some_hands (after answers.1 (event.Ended connection how.0)) connection in
-    let few : length split.rest ≤ length input = rw (split.whole.whole, length-append (flat_map spelling split.frames) split.rest) (omega arith) in (
+-- something is to be written at the end of input whose whole frames are answered
+out_of_front : (input rest front : List ℕ) (refused : List ReqNo) (m : Machine) (stop : Option FrameFault) → IsAnswered input [] refused front rest m → IsStop stop rest
+    → (how : Finish) × (offset : ℕ) × (whole : List ℕ) × (more : List ℕ) × (whole ≡ front ++ more) × IsStdioOut input [] refused how offset whole
+out_of_front input rest front refused m stop is met =
+    let how = some_finish rest stop met in
+    let hands = some_hands (after m (event.Ended connection how.0)) connection in
+    let few : length rest ≤ length input = rw (is.whole.whole, length-append (flat_map spelling is.frames) rest) (omega arith) in (
       how.0,
-      length input - length split.rest,
-      (banner ++ answers.0) ++ flat_map spelling hands.0,
-      record {
-        front = banner ++ answers.0;
-        rest = split.rest;
-        before = answers.1;
-        last = hands.1;
-        frames = hands.0;
-        answered = record { frames = split.frames; body = answers.0; whole = split.whole; answers = answers.2; begins = refl };
-        ends = how.1;
-        place = omega arith;
-        hands = hands.2;
-        whole = refl;
-      },
+      length input - length rest,
+      front ++ flat_map spelling hands.0,
+      flat_map spelling hands.0,
+      refl,
+      record { front = front; rest = rest; before = m; last = hands.1; frames = hands.0; answered = is; ends = how.1; place = omega arith; hands = hands.2; whole = refl },
     )
 
--- something is to be written for every input
-pub some_out : (input salts : List ℕ) → IsBytes input → (how : Finish) × (offset : ℕ) × (whole : List ℕ) × IsStdioOut input salts how offset whole
-some_out input salts all = out_of_split input salts (some_split input all)
+-- something is to be written for every input, where no call is refused for memory
+pub some_out : (input : List ℕ) → IsBytes input → (how : Finish) × (offset : ℕ) × (whole : List ℕ) × IsStdioOut input [] [] how offset whole
+some_out input all =
+    let split = some_split input all in
+    let answers = some_answers split.frames at_start [] in
+    let is : IsAnswered input [] [] (banner ++ answers.0) split.rest answers.1 = record { frames = split.frames; body = answers.0; whole = split.whole; answers = answers.2; begins = refl } in
+    let out = out_of_front input split.rest (banner ++ answers.0) [] answers.1 split.stop is split.met in
+    (out.0, out.1, out.2, out.5)
 
 -- ---- parts
 
--- the frames of more bytes begin with the frames of the first
-frames_begin : (front more rest : List ℕ) (frames : List Frame) → IsBytes (front ++ more) → IsWhole front frames rest → (later : List Frame) × (left : List ℕ) × IsWhole (front ++ more) (frames ++ later) left
-frames_begin front more rest frames all is =
-    let shape : front ++ more ≡ flat_map spelling frames ++ (rest ++ more) = ap (λ (t : List ℕ). t ++ more) is.whole ∙ append_assoc (flat_map spelling frames) rest more in
+-- the whole frames of the input, of which the first are answered
+record Continues (input text : List ℕ) (refused : List ReqNo) : Type 0 where
+  more : List ℕ
+  rest : List ℕ
+  last : Machine
+  stop : Option FrameFault
+  answered : IsAnswered input [] refused (text ++ more) rest last
+  met : IsStop stop rest
+
+-- where the frames of a front are known, so are those of the input
+whole_split : (input front more rest : List ℕ) (frames : List Frame) → input ≡ front ++ more → IsWhole front frames rest → IsBytes input
+    → (split : Split (rest ++ more)) × IsWhole input (frames ++ split.frames) split.rest
+whole_split input front more rest frames is whole all =
+    let shape : input ≡ flat_map spelling frames ++ (rest ++ more) = is ∙ ap (λ (t : List ℕ). t ++ more) whole.whole ∙ append_assoc (flat_map spelling frames) rest more in
     let split = some_split (rest ++ more) (bytes-back (flat_map spelling frames) (rest ++ more) (subst IsBytes shape all)) in (
-      split.frames,
-      split.rest,
+      split,
       record {
         whole = shape ∙ ap (λ (t : List ℕ). flat_map spelling frames ++ t) split.whole.whole ∙ sym (stream-append frames split.frames split.rest);
-        each = each-append frames split.frames is.each split.whole.each;
+        each = each-append frames split.frames whole.each split.whole.each;
         none = split.whole.none;
       },
     )
 
--- what is written for first frames begins what is to be written for the input
-begun_begins : (input salts text whole : List ℕ) (how : Finish) (offset : ℕ) → IsBytes input → IsBegun input text → IsStdioOut input [] how offset whole → (more : List ℕ) × (whole ≡ text ++ more)
-begun_begins input salts text whole how offset all so out =
-    let same = so.is in
-    let bytes : IsBytes (so.front ++ so.more) = subst IsBytes same all in
-    let begins = frames_begin so.front so.more so.rest (so.frames ++ so.later) bytes so.whole in
-    let is = out.answered in
-    let split : IsWhole (so.front ++ so.more) is.frames out.rest = subst (λ (l : List ℕ). IsWhole l is.frames out.rest) same is.whole in
-    let frames : is.frames ≡ (so.frames ++ so.later) ++ begins.0 = (one_whole (so.front ++ so.more) is.frames ((so.frames ++ so.later) ++ begins.0) out.rest begins.1 split begins.2).0 in
-    let shape : (so.frames ++ so.later) ++ begins.0 ≡ so.frames ++ (so.later ++ begins.0) = append_assoc so.frames so.later begins.0 in
-    let answers : Answers at_start (so.frames ++ (so.later ++ begins.0)) [] is.body out.before = subst (λ (fs : List Frame). Answers at_start fs [] is.body out.before) (frames ∙ shape) is.answers in
-    let more = text_begins so.frames (so.later ++ begins.0) at_start [] so.body is.body so.last out.before so.answers answers in
-    let tail = flat_map spelling out.frames in (
-      more.0 ++ tail,
-      out.whole ∙ ap (λ (t : List ℕ). t ++ tail) (is.begins ∙ ap (λ (t : List ℕ). banner ++ t) more.1 ∙ sym (append_assoc banner so.body more.0) ∙ ap (λ (t : List ℕ). t ++ more.0) (sym so.begins))
-          ∙ append_assoc text more.0 tail,
-    )
+-- the texts of first frames and of later ones behind the banner
+behind_banner : (text body later : List ℕ) → text ≡ banner ++ body → text ++ later ≡ banner ++ (body ++ later)
+behind_banner text body later begins = ap (λ (t : List ℕ). t ++ later) begins ∙ append_assoc banner body later
 
--- a part of what is to be written for the input is first bytes of it
-pub part_cut : (input text : List ℕ) → IsBytes input → IsPart input text → IsCutOff input [] text
+-- the frames behind the first ones are answered
+continues : (input text : List ℕ) → IsBytes input → (so : IsBegun input text) → Continues input text so.refused
+continues input text all so =
+    let frames = so.frames ++ so.later in
+    let split = whole_split input so.front so.more so.rest frames so.is so.whole all in
+    let others = so.later ++ split.0.frames in
+    let later = some_answers others so.last [] in
+    let start = server_of at_start so.refused in
+    let answers = answers_then so.frames others start (server_of so.last []) (server_of later.1 []) so.body later.0 so.answers later.2 in
+    record {
+      more = later.0;
+      rest = split.0.rest;
+      last = later.1;
+      stop = split.0.stop;
+      answered = record {
+        frames = frames ++ split.0.frames;
+        body = so.body ++ later.0;
+        whole = split.1;
+        answers = subst (λ (fs : List Frame). Answers start fs [] (so.body ++ later.0) (server_of later.1 [])) (sym (append_assoc so.frames so.later split.0.frames)) answers;
+        begins = behind_banner text so.body later.0 so.begins;
+      };
+      met = split.0.met;
+    }
+
+-- what is written for first frames of the input begins what is to be written for the input
+begun_begins : (input text : List ℕ) → IsBytes input → (so : IsBegun input text)
+    → (how : Finish) × (offset : ℕ) × (whole : List ℕ) × (more : List ℕ) × (whole ≡ text ++ more) × IsStdioOut input [] so.refused how offset whole
+begun_begins input text all so =
+    let on = continues input text all so in
+    let out = out_of_front input on.rest (text ++ on.more) so.refused on.last on.stop on.answered on.met in
+    (out.0, out.1, out.2, on.more ++ out.3, out.4 ∙ append_assoc text on.more out.3, out.5)
+
+-- a part of what is to be written for the input is first bytes of it, where some calls are refused for memory
+pub part_cut : (input text : List ℕ) → IsBytes input → IsPart input text → (refused : List ReqNo) × IsCutOff input [] refused text
 part_cut input text all part = by_part part.whole part.count part.written part.cut
   where
-    by_part : (whole : List ℕ) (count : ℕ) → IsBegun input whole ⊎ (how : Finish) × (offset : ℕ) × IsStdioOut input [] how offset whole → text ≡ take count whole → IsCutOff input [] text
-    by_part whole count (inr out) cut = record { how = out.0; offset = out.1; whole = whole; count = count; out = out.2; cut = cut }
+    by_part : (whole : List ℕ) (count : ℕ) → IsBegun input whole ⊎ IsAllOf input whole → text ≡ take count whole → (refused : List ReqNo) × IsCutOff input [] refused text
+    by_part whole count (inr is) cut = (is.refused, record { how = is.how; offset = is.offset; whole = whole; count = count; out = is.out; cut = cut })
     by_part whole count (inl begun) cut =
-        let out = some_out input [] all in
-        let more = begun_begins input [] whole out.2 out.0 out.1 all begun out.3 in
+        let out = begun_begins input whole all begun in
         let few : min count (length whole) ≤ length whole = omega arith in
-        let front : take (min count (length whole)) (whole ++ more.0) ≡ take count whole = take-append-le (min count (length whole)) whole more.0 few ∙ take_min count whole in
-        record { how = out.0; offset = out.1; whole = out.2; count = min count (length whole); out = out.3; cut = cut ∙ sym front ∙ ap (take (min count (length whole))) (sym more.1) }
+        let front : take (min count (length whole)) (whole ++ out.3) ≡ take count whole = take-append-le (min count (length whole)) whole out.3 few ∙ take_min count whole in
+        (begun.refused, record { how = out.0; offset = out.1; whole = out.2; count = min count (length whole); out = out.5; cut = cut ∙ sym front ∙ ap (take (min count (length whole))) (sym out.4) })

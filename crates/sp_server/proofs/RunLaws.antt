@@ -5,6 +5,7 @@ use Rattle.std.specs.Prelude.{IsTrue, ◌↔◌}
 use Rattle.std.specs.Io.KnownBytes.{Keeps, Appends, Consumes, IsAtEnd}
 use Rattle.sp_io.specs.Whole.{IsAll}
 use Rattle.sp_io.proofs.Known.{appends_then, consumes_then, appends_keeps}
+use Rattle.sp_base.specs.declared.names.ReqNo.{ReqNo}
 use Rattle.sp_server.specs.declared.session.Session.{Session}
 use Rattle.sp_server.specs.declared.session.Stop.{Stop}
 use Rattle.sp_server.specs.declared.session.Stop.TheVariants as stop
@@ -16,7 +17,7 @@ use Rattle.sp_server.specs.Session.{end_of, outcome, IsAt, IsPart, IsPartBehind,
 use Rattle.sp_server.proofs.EndLaws.{all_looked_at}
 use Rattle.sp_server.proofs.Octets.{bytes-append, bytes-take}
 use Rattle.sp_server.proofs.Outs.{part_cut}
-use Rattle.sp_server.proofs.SessionLaws.{appends_nothing, part_answered}
+use Rattle.sp_server.proofs.SessionLaws.{appends_nothing, answered_last, part_answered}
 
 -- ---- known bytes
 
@@ -63,7 +64,7 @@ IsRunning s left left' passed passed' held held' =
     (taken : List ℕ) × (text : List ℕ) × IsAt s None taken text × Consumes left left' taken × Appends passed passed' taken × Appends held held' text
 
 -- a run that stops has written first bytes of what is to be written
-stopped : (s : Stop) (taken text : List ℕ) → IsBytes (take most_input taken) → IsPart (take most_input taken) text → Serves (end_of s) taken [] text
+stopped : (s : Stop) (taken text : List ℕ) → IsBytes (take most_input taken) → IsPart (take most_input taken) text → (refused : List ReqNo) × Serves (end_of s) taken [] refused text
 stopped stop.Output taken text all part = part_cut (take most_input taken) text all part
 stopped stop.NoMemory taken text all part = part_cut (take most_input taken) text all part
 
@@ -73,33 +74,38 @@ never_read stop.NoMemory e = absurd cc
 
 -- the run that stops before it takes anything
 pub begun : (s : Stop) (left passed held held' drawn : Option (List ℕ)) → IsPartBehind [] [] held held' → IsServed (told left passed held drawn) (told left passed held' drawn) (end_of s)
-begun s left passed held held' drawn is = record {
-  taken = [];
-  salts = [];
-  text = is.0;
-  source = consumes_nothing left;
-  counted = appends_nothing passed;
-  sink = is.1;
-  salt = appends_nothing drawn;
-  serves = stopped s [] is.0 (λ i. omega arith) is.2;
-  all = λ e. absurd (never_read s e);
-  none_drawn = refl;
-}
+begun s left passed held held' drawn is =
+    let stops = stopped s [] is.0 (λ i. omega arith) is.2 in
+    record {
+      taken = [];
+      salts = [];
+      refused = stops.0;
+      text = is.0;
+      source = consumes_nothing left;
+      counted = appends_nothing passed;
+      sink = is.1;
+      salt = appends_nothing drawn;
+      serves = stops.1;
+      all = λ e. absurd (never_read s e);
+      none_drawn = refl;
+    }
 
 -- the source fails
 pub input_failed : (s : Session) (left left1 left2 passed passed1 passed2 held held1 drawn : Option (List ℕ)) → IsRunning s left left1 passed passed1 held held1 → Keeps left1 left2 → Keeps passed1 passed2
     → IsServed (told left passed held drawn) (told left2 passed2 held1 drawn) end.InputFault
 input_failed s left left1 left2 passed passed1 passed2 held held1 drawn so kept counted =
     let is = so.2 in
+    let answered = answered_last so.0 so.1 s.framer.rest s.hub is.answered in
     record {
       taken = so.0;
       salts = [];
+      refused = answered.0;
       text = so.1;
       source = consumes_keeps left left1 left2 so.0 so.3 kept;
       counted = appends_keeps passed passed1 passed2 so.0 so.4 counted;
       sink = so.5;
       salt = appends_nothing drawn;
-      serves = (is.within, (s.framer.rest, s.hub, is.answered, is.met));
+      serves = (is.within, (s.framer.rest, s.hub, answered.1, is.met));
       all = λ e. absurd cc;
       none_drawn = refl;
     }
@@ -110,34 +116,37 @@ pub input_unread : (s : Session) (left left1 left2 passed passed1 passed2 held h
 input_unread s left left1 left2 passed passed1 passed2 held held1 drawn so kept counted =
     let is = so.2 in
     let same = all_looked_at so.0 is.within in
+    let stops = stopped stop.NoMemory so.0 so.1 (subst IsBytes same is.octets) (subst (λ (l : List ℕ). IsPart l so.1) same (part_answered so.0 so.1 s.framer.rest s.hub is.answered)) in
     record {
       taken = so.0;
       salts = [];
+      refused = stops.0;
       text = so.1;
       source = consumes_keeps left left1 left2 so.0 so.3 kept;
       counted = appends_keeps passed passed1 passed2 so.0 so.4 counted;
       sink = so.5;
       salt = appends_nothing drawn;
-      serves = stopped stop.NoMemory so.0 so.1 (subst IsBytes same is.octets) (subst (λ (l : List ℕ). IsPart l so.1) same (part_answered so.0 so.1 s.framer.rest s.hub is.answered));
+      serves = stops.1;
       all = λ e. absurd cc;
       none_drawn = refl;
     }
 
 -- the input ended
 finished_by : (s : Session) (end : StdioEnd) (piece text : List ℕ) (left left1 left2 passed passed1 passed2 held held1 held2 drawn : Option (List ℕ)) → (so : IsRunning s left left1 passed passed1 held held1)
-    → piece ≡ [] → Consumes left1 left2 piece → Appends passed1 passed2 piece → IsAtEnd left1 → Appends held1 held2 text → Serves end so.0 [] (so.1 ++ text)
+    → piece ≡ [] → Consumes left1 left2 piece → Appends passed1 passed2 piece → IsAtEnd left1 → Appends held1 held2 text → (refused : List ReqNo) × Serves end so.0 [] refused (so.1 ++ text)
     → IsServed (told left passed held drawn) (told left2 passed2 held2 drawn) end
 finished_by s end piece text left left1 left2 passed passed1 passed2 held held1 held2 drawn so none takes counts at puts serves =
     let whole : so.0 ++ piece ≡ so.0 = ap (λ t. so.0 ++ t) none ∙ append-nil so.0 in
     record {
       taken = so.0;
       salts = [];
+      refused = serves.0;
       text = so.1 ++ text;
       source = subst (Consumes left left2) whole (consumes_then left left1 left2 so.0 piece so.3 takes);
       counted = subst (Appends passed passed2) whole (appends_then passed passed1 passed2 so.0 piece so.4 counts);
       sink = appends_then held held1 held2 so.1 text so.5 puts;
       salt = appends_nothing drawn;
-      serves = serves;
+      serves = serves.1;
       all = λ e. all_taken left left1 so.0 so.3 at;
       none_drawn = refl;
     }
@@ -149,7 +158,7 @@ pub finished : (s : Session) (result : Result StdioEnd Stop) (piece : List ℕ) 
     → IsServed (told left passed held drawn) (told left2 passed2 held2 drawn) (outcome result)
 finished s (Ok end) piece left left1 left2 passed passed1 passed2 held held1 held2 drawn so none takes counts at ends parts =
     let out = ends so.0 so.1 so.2 in
-    finished_by s end piece out.0 left left1 left2 passed passed1 passed2 held held1 held2 drawn so none takes counts at out.1 out.2
+    finished_by s end piece out.0 left left1 left2 passed passed1 passed2 held held1 held2 drawn so none takes counts at out.1 (out.2, out.3)
 finished s (Err stop) piece left left1 left2 passed passed1 passed2 held held1 held2 drawn so none takes counts at ends parts =
     let part = parts so.0 so.1 so.2 in
     let same = all_looked_at so.0 so.2.within in
@@ -163,12 +172,13 @@ pub broken : (s : Session) (end : StdioEnd) (piece : List ℕ) (left left1 left2
 broken s end piece left left1 left2 passed passed1 passed2 held held1 held2 drawn so takes counts unread ends = record {
   taken = so.0 ++ piece;
   salts = [];
+  refused = ends.2;
   text = so.1 ++ ends.0;
   source = consumes_then left left1 left2 so.0 piece so.3 takes;
   counted = appends_then passed passed1 passed2 so.0 piece so.4 counts;
   sink = appends_then held held1 held2 so.1 ends.0 so.5 ends.1;
   salt = appends_nothing drawn;
-  serves = ends.2;
+  serves = ends.3;
   all = λ e. let never : false ≡ true = sym unread ∙ e in absurd cc;
   none_drawn = refl;
 }
@@ -183,8 +193,9 @@ pub cut : (s : Session) (stop : Stop) (piece : List ℕ) (left left1 left2 passe
     → IsServed (told left passed held drawn) (told left2 passed2 held2 drawn) (end_of stop)
 cut s stop piece left left1 left2 passed passed1 passed2 held held1 held2 drawn so takes counts all part =
     let octets = bytes-take most_input (so.0 ++ piece) (bytes-append so.0 piece so.2.octets all) in
+    let stops = stopped stop (so.0 ++ piece) (so.1 ++ part.0) octets part.2 in
     broken s (end_of stop) piece left left1 left2 passed passed1 passed2 held held1 held2 drawn so takes counts (never_is_read stop)
-    (part.0, part.1, stopped stop (so.0 ++ piece) (so.1 ++ part.0) octets part.2)
+    (part.0, part.1, stops.0, stops.1)
 
 -- a piece was fed, and the run goes on
 pub goes_on : (s t : Session) (piece : List ℕ) (left left1 left2 passed passed1 passed2 held held1 held2 : Option (List ℕ)) → (so : IsRunning s left left1 passed passed1 held held1)

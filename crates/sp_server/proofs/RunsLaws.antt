@@ -8,14 +8,16 @@ use Rattle.sp_base.specs.declared.names.ReqNo.{ReqNo}
 use Rattle.sp_frames.specs.Banner.{banner}
 use Rattle.sp_frames.specs.Grammar.{spelling}
 use Rattle.sp_frames.specs.declared.frame.Frame.{Frame}
-use Rattle.sp_hub.specs.declared.event.Event.{Event}
-use Rattle.sp_hub.specs.declared.event.Event.TheVariants as event
-use Rattle.sp_hub.specs.declared.event.Finish.{Finish}
-use Rattle.sp_hub.specs.declared.event.Reply.{Reply}
-use Rattle.sp_hub.specs.declared.event.Reply.TheVariants as reply
-use Rattle.sp_hub.specs.Machine.{Machine, fresh_machine}
-use Rattle.sp_hub.specs.Run.{Exchange, Runs}
-use Rattle.sp_server.specs.Serving.{reply_to, after, worked, performs, AreRounds, HandsOut, is_out, taken_frame, handed_out}
+use Rattle.hub_model.specs.declared.event.Event.{Event}
+use Rattle.hub_model.specs.declared.event.Event.TheVariants as event
+use Rattle.hub_model.specs.declared.event.Finish.{Finish}
+use Rattle.hub_model.specs.declared.event.Reply.{Reply}
+use Rattle.hub_model.specs.declared.event.Reply.TheVariants as reply
+use Rattle.sp_frames.specs.declared.version.Version.TheVariants.{Four}
+use Rattle.hub_model.specs.Machine.{played}
+use Rattle.hub_model.specs.State.{Machine, fresh_machine}
+use Rattle.hub_model.specs.Run.{Exchange, Runs}
+use Rattle.sp_server.specs.Serving.{Server, server_of, reply_to, after, has_memory, after_work, worked, performs, AreRounds, HandsOut, is_out, taken_frame, handed_out}
 use Rattle.sp_server.specs.Stdio.{connection, at_start, salt_for, salts_behind, AnswersFrame, Answers, IsStdioOut}
 
 -- a run of the machine, and the frames that it hands out
@@ -27,12 +29,12 @@ record Leads (old : Machine) (frames : List Frame) (new : Machine) : Type 0 wher
 no_step : (m : Machine) → Leads m [] m
 no_step m = record { exchanges = []; runs = refl; hands = refl }
 
--- one event that is answered as the machine says
-one_step : (m : Machine) (e : Event) (frames : List Frame) → taken_frame e (reply_to m e) ≡ frames → Leads m frames (after m e)
-one_step m e frames is = record {
-  exchanges = record { event = e; reply = reply_to m e } ∷ [];
-  runs = (after m e, inl refl, refl);
-  hands = append-nil (taken_frame e (reply_to m e)) ∙ is;
+-- one event that is answered as the machine says, with memory or without
+one_step : (memory : Bool) (m : Machine) (e : Event) (frames : List Frame) → taken_frame e (played memory m e).0 ≡ frames → Leads m frames (played memory m e).1
+one_step memory m e frames is = record {
+  exchanges = record { event = e; reply = (played memory m e).0 } ∷ [];
+  runs = ((played memory m e).1, inl (memory, refl), refl);
+  hands = append-nil (taken_frame e (played memory m e).0) ∙ is;
 }
 
 runs_then : (xs ys : List Exchange) (m n k : Machine) → Runs m xs n → Runs n ys k → Runs m (xs ++ ys) k
@@ -57,6 +59,8 @@ leads_then m n k fs gs a b = record {
 none_taken : (c : ConnNo) (r : Reply) → is_out r ≡ false → taken_frame (event.Take c) r ≡ []
 none_taken c (reply.Out f) e = absurd cc
 none_taken c (reply.Task r) e = refl
+none_taken c reply.Asked e = refl
+none_taken c reply.AwaitsAnswer e = refl
 none_taken c reply.NotReady e = refl
 none_taken c reply.Done e = refl
 none_taken c reply.Nothing e = refl
@@ -66,49 +70,52 @@ none_taken c reply.Closed e = refl
 none_taken c reply.NoMemory e = refl
 
 hands_lead : (m : Machine) (c : ConnNo) (frames : List Frame) (n : Machine) → HandsOut m c frames n → Leads m frames n
-hands_lead m c [] n is = subst (λ (x : Machine). Leads m [] x) (sym is.1) (one_step m (event.Take c) [] (none_taken c (reply_to m (event.Take c)) is.0))
+hands_lead m c [] n is = subst (λ (x : Machine). Leads m [] x) (sym is.1) (one_step true m (event.Take c) [] (none_taken c (reply_to m (event.Take c)) is.0))
 hands_lead m c (f ∷ frames) n is =
-    leads_then m (after m (event.Take c)) n (f ∷ []) frames (one_step m (event.Take c) (f ∷ []) (ap (taken_frame (event.Take c)) is.0)) (hands_lead (after m (event.Take c)) c frames n is.1)
+    leads_then m (after m (event.Take c)) n (f ∷ []) frames (one_step true m (event.Take c) (f ∷ []) (ap (taken_frame (event.Take c)) is.0)) (hands_lead (after m (event.Take c)) c frames n is.1)
 
-worked_leads : (m : Machine) (c : ConnNo) (numbers : List ReqNo) → Leads m [] (worked m c numbers)
-worked_leads m c [] = no_step m
-worked_leads m c (r ∷ numbers) = leads_then m (after m (event.Work c r)) (worked (after m (event.Work c r)) c numbers) [] [] (one_step m (event.Work c r) [] refl) (worked_leads (after m (event.Work c r)) c numbers)
+worked_leads : (s : Server) (c : ConnNo) (numbers : List ReqNo) → Leads s.machine [] (worked s c numbers).machine
+worked_leads s c [] = no_step s.machine
+worked_leads s c (r ∷ numbers) =
+    leads_then s.machine (after_work s c r).machine (worked (after_work s c r) c numbers).machine [] []
+    (one_step (has_memory s.refused r) s.machine (event.Work c r) [] refl) (worked_leads (after_work s c r) c numbers)
 
-rounds_lead : (m : Machine) (c : ConnNo) (again : Bool) (rounds : List (List ReqNo)) (n : Machine) → AreRounds m c again rounds n → Leads m [] n
-rounds_lead m c again [] n is = subst (λ (x : Machine). Leads m [] x) (sym is.1) (no_step m)
-rounds_lead m c again (numbers ∷ rounds) n is =
-    leads_then m (worked m c numbers) n [] [] (worked_leads m c numbers) (rounds_lead (worked m c numbers) c (performs m c numbers) rounds n is.2)
+rounds_lead : (s : Server) (c : ConnNo) (again : Bool) (rounds : List (List ReqNo)) (n : Server) → AreRounds s c again rounds n → Leads s.machine [] n.machine
+rounds_lead s c again [] n is = subst (λ (x : Server). Leads s.machine [] x.machine) (sym is.1) (no_step s.machine)
+rounds_lead s c again (numbers ∷ rounds) n is =
+    leads_then s.machine (worked s c numbers).machine n.machine [] [] (worked_leads s c numbers) (rounds_lead (worked s c numbers) c (performs s c numbers) rounds n is.2)
 
 -- ---- answers
 
-answer_leads : (m : Machine) (f : Frame) (salt : ℕ) (text : List ℕ) (n : Machine) (is : AnswersFrame m f salt text n) → Leads m is.frames n
-answer_leads m f salt text n is =
-    let comes = one_step m (event.Frame connection f salt) [] refl in
-    let worked = rounds_lead (after m (event.Frame connection f salt)) connection true is.rounds is.worked is.works in
-    let out = hands_lead is.worked connection is.frames n is.hands in
-    leads_then m is.worked n [] is.frames (leads_then m (after m (event.Frame connection f salt)) is.worked [] [] comes worked) out
+answer_leads : (s : Server) (f : Frame) (salt : ℕ) (text : List ℕ) (n : Server) (is : AnswersFrame s f salt text n) → Leads s.machine is.frames n.machine
+answer_leads s f salt text n is =
+    let came = after s.machine (event.Frame connection f salt) in
+    let comes = one_step true s.machine (event.Frame connection f salt) [] refl in
+    let worked = rounds_lead (server_of came s.refused) connection true is.rounds is.worked is.works in
+    let out = hands_lead is.worked.machine connection is.frames n.machine is.hands in
+    leads_then s.machine is.worked.machine n.machine [] is.frames (leads_then s.machine came is.worked.machine [] [] comes worked) out
 
-answers_lead : (frames : List Frame) (m : Machine) (salts text : List ℕ) (n : Machine) → Answers m frames salts text n → (out : List Frame) × Leads m out n × (text ≡ flat_map spelling out)
-answers_lead [] m salts text n is = ([], subst (λ (x : Machine). Leads m [] x) (sym is.1) (no_step m), is.0)
-answers_lead (f ∷ frames) m salts text n is =
+answers_lead : (frames : List Frame) (s : Server) (salts text : List ℕ) (n : Server) → Answers s frames salts text n → (out : List Frame) × Leads s.machine out n.machine × (text ≡ flat_map spelling out)
+answers_lead [] s salts text n is = ([], subst (λ (x : Server). Leads s.machine [] x.machine) (sym is.1) (no_step s.machine), is.0)
+answers_lead (f ∷ frames) s salts text n is =
     let one = is.3 in
     let rest = answers_lead frames is.0 (salts_behind f salts) is.2 n is.4 in (
       one.frames ++ rest.0,
-      leads_then m is.0 n one.frames rest.0 (answer_leads m f (salt_for f salts) is.1 is.0 one) rest.1,
+      leads_then s.machine is.0.machine n.machine one.frames rest.0 (answer_leads s f (salt_for f salts) is.1 is.0 one) rest.1,
       is.5 ∙ ap (λ (t : List ℕ). t ++ is.2) one.spelled ∙ ap (λ (t : List ℕ). flat_map spelling one.frames ++ t) rest.2 ∙ sym (flat_map-append spelling one.frames rest.0),
     )
 
 -- what is written for input that ends is what a run from a fresh machine hands out
-pub out_runs : (input salts : List ℕ) (how : Finish) (offset : ℕ) (text : List ℕ) → IsStdioOut input salts how offset text
-    → (exchanges : List Exchange) × (last : Machine) × Runs fresh_machine exchanges last × (text ≡ banner ++ flat_map spelling (handed_out exchanges))
-out_runs input salts how offset text out =
-    let answers = answers_lead out.answered.frames at_start salts out.answered.body out.before out.answered.answers in
-    let opens = one_step fresh_machine (event.Opened connection) [] refl in
-    let ends = one_step out.before (event.Ended connection how) [] refl in
+pub out_runs : (input salts : List ℕ) (refused : List ReqNo) (how : Finish) (offset : ℕ) (text : List ℕ) → IsStdioOut input salts refused how offset text
+    → (exchanges : List Exchange) × (last : Machine) × Runs (fresh_machine Four) exchanges last × (text ≡ banner ++ flat_map spelling (handed_out exchanges))
+out_runs input salts refused how offset text out =
+    let answers = answers_lead out.answered.frames (server_of at_start refused) salts out.answered.body (server_of out.before []) out.answered.answers in
+    let opens = one_step true (fresh_machine Four) (event.Opened connection) [] refl in
+    let ends = one_step true out.before (event.Ended connection how) [] refl in
     let hands = hands_lead (after out.before (event.Ended connection how)) connection out.frames out.last out.hands in
-    let first = leads_then fresh_machine at_start out.before [] answers.0 opens answers.1 in
+    let first = leads_then (fresh_machine Four) at_start out.before [] answers.0 opens answers.1 in
     let second = leads_then out.before (after out.before (event.Ended connection how)) out.last [] out.frames ends hands in
-    let all = leads_then fresh_machine out.before out.last answers.0 out.frames first second in (
+    let all = leads_then (fresh_machine Four) out.before out.last answers.0 out.frames first second in (
       all.exchanges,
       out.last,
       all.runs,

@@ -6,6 +6,7 @@ use Rattle.std.proofs.Math.Seq.{take-length, take-append-add}
 use Rattle.std.specs.Prelude.{◌==◌, min, IsTrue, ◌↔◌}
 use Rattle.std.specs.List.{flat_map}
 use Rattle.std.specs.Io.KnownBytes.{Appends}
+use Rattle.sp_io.specs.Whole.{AppendsFirst}
 use Rattle.sp_frames.specs.declared.fault.FrameFault.{FrameFault}
 use Rattle.sp_frames.specs.declared.fault.FrameFault.TheVariants as frame_fault
 use Rattle.sp_frames.specs.declared.frame.Frame.{Frame}
@@ -15,17 +16,25 @@ use Rattle.sp_frames.specs.Grammar.{spelling}
 use Rattle.sp_frames.specs.Stream.{IsWhole}
 use Rattle.sp_frames.specs.Faults.{HasFault, NoFault}
 use Rattle.sp_frames.specs.Framing.{Held, Follows, IsStop}
-use Rattle.sp_hub.specs.declared.event.Event.TheVariants as event
-use Rattle.sp_hub.specs.declared.event.Finish.{Finish}
-use Rattle.sp_hub.specs.declared.event.Finish.TheVariants as finish
-use Rattle.sp_hub.specs.Machine.{Machine}
+use Rattle.sp_base.specs.declared.names.ReqNo.{ReqNo}
+use Rattle.sp_frames.specs.declared.version.Version.TheVariants.{Four}
+use Rattle.hub_model.proofs.Sound.{plays_sound, fresh_sound}
+use Rattle.hub_model.specs.Machine.{Plays}
+use Rattle.hub_model.specs.declared.event.Reply.{Reply}
+use Rattle.hub_model.specs.declared.event.Reply.TheVariants as reply
+use Rattle.hub_model.specs.declared.event.Event.TheVariants as event
+use Rattle.hub_model.specs.declared.event.Finish.{Finish}
+use Rattle.hub_model.specs.declared.event.Finish.TheVariants as finish
+use Rattle.hub_model.specs.Sound.{IsSound}
+use Rattle.hub_model.specs.State.{Machine, fresh_machine}
 use Rattle.sp_io.proofs.Known.{appends_then}
 use Rattle.sp_server.proofs.Octets.{bytes-append}
 use Rattle.sp_server.specs.declared.session.Session.{Session}
 use Rattle.sp_server.specs.declared.stdio.StdioEnd.TheVariants as end
-use Rattle.sp_server.specs.Serving.{after, HandsOut}
+use Rattle.sp_server.specs.Serving.{Server, server_of, reply_to, after, AreRounds, HandsOut}
 use Rattle.sp_server.specs.Stdio.{connection, at_start, most_input, AnswersFrame, Answers, IsAnswered, EndsAs, IsStdioOut, IsUnended, Serves}
-use Rattle.sp_server.specs.Session.{IsBehind, IsAt, IsMet, IsQueueFront, IsAnswerFront, IsPart, IsPartBehind, IsServedBehind}
+use Rattle.sp_server.specs.Session.{MayRefuse, Proceeds, AreAllRounds, AnswersSoFar, AnswersOne, IsBehind, IsAnsweredSoFar, IsAt, IsMet, IsQueueFront, IsAnswerFront, IsPart, IsPartBehind, IsOutBehind, IsServedBehind}
+use Rattle.sp_server.proofs.Refusing.{Grows, refuse_before, frame_grows, hands_grow, hands_sound, frame_is}
 
 -- ---- known bytes
 
@@ -36,25 +45,90 @@ appends_nothing (Some xs) = sym (append-nil xs)
 
 -- ---- frames and their answers
 
-pub answers_push : (start m n : Machine) (frames : List Frame) (f : Frame) (body text : List ℕ) → Answers start frames [] body m → AnswersFrame m f 0 text n → Answers start (frames ++ f ∷ []) [] (body ++ text) n
+answers_push : (start m n : Server) (frames : List Frame) (f : Frame) (body text : List ℕ) → Answers start frames [] body m → AnswersFrame m f 0 text n → Answers start (frames ++ f ∷ []) [] (body ++ text) n
 answers_push start m n [] f body text all one = (n, text, [], subst (λ m. AnswersFrame m f 0 text n) all.1 one, (refl, refl), ap (λ b. b ++ text) all.0 ∙ sym (append-nil text))
 answers_push start m n (g ∷ frames) f body text all one =
     (all.0, all.1, all.2 ++ text, all.3, answers_push all.0 m n frames f all.2 text all.4 one, ap (λ b. b ++ text) all.5 ∙ append_assoc all.1 all.2 text)
 
+-- one frame more is answered, whichever calls are refused later
+pub push : (m n : Machine) (frames : List Frame) (f : Frame) (body text : List ℕ) → AnswersSoFar frames body m → AnswersOne m f text n → AnswersSoFar (frames ++ f ∷ []) (body ++ text) n
+push m n frames f body text all one = record {
+  keeps = λ sound. one.keeps (all.keeps sound);
+  steps = λ sound later may.
+      let second = one.steps (all.keeps sound) later may in
+      let first = all.steps sound second.0 second.1 in
+      (first.0, first.1, answers_push (server_of at_start first.0) (server_of m second.0) (server_of n later) frames f body text first.2 second.2);
+}
+
+-- the server at its start is sound
+pub start_sound : IsSound at_start
+start_sound = plays_sound (fresh_machine Four) at_start (event.Opened connection) (reply_to (fresh_machine Four) (event.Opened connection)) (fresh_sound Four) (inl (true, refl))
+
+-- where no call is refused later, these were
+pub at_last : (frames : List Frame) (body : List ℕ) (m : Machine) → AnswersSoFar frames body m → (refused : List ReqNo) × Answers (server_of at_start refused) frames [] body (server_of m [])
+at_last frames body m so = let first = so.steps start_sound [] tt in (first.0, first.2)
+
+-- nothing is answered at the start
+pub none_yet : (m : Machine) → m ≡ at_start → AnswersSoFar [] [] m
+none_yet m is = record {
+  keeps = λ sound. subst (λ (n : Machine). IsSound n) (sym is) sound;
+  steps = λ sound later may. (later, subst (λ (n : Machine). MayRefuse connection n later) is may, (refl, ap (λ (n : Machine). server_of n later) is));
+}
+
+-- what is written for a frame: it happens to the server, the open calls are worked, and what is queued is handed out
+pub one_answered : (m k n l : Machine) (f : Frame) (answer : Reply) (frames : List Frame) → Plays m (event.Frame connection f 0) answer k → answer ≢ reply.NoMemory
+    → Proceeds connection (AreAllRounds connection) k n → HandsOut n connection frames l → AnswersOne m f (flat_map spelling frames) l
+one_answered m k n l f answer frames plays ne rounds hands =
+    let is : k ≡ after m (event.Frame connection f 0) = frame_is m k connection f 0 answer plays ne in
+    record {
+      keeps = λ sound. hands_sound n connection frames l hands (rounds.keeps (plays_sound m k (event.Frame connection f 0) answer sound plays));
+      steps = λ sound later may.
+          let worked = rounds.steps (plays_sound m k (event.Frame connection f 0) answer sound plays) later (refuse_before connection n l later (hands_grow n connection frames l hands) may) in
+          let grows = subst (λ (j : Machine). Grows m j) (sym is) (frame_grows m connection f 0) in (
+            worked.0,
+            refuse_before connection m k worked.0 grows worked.1,
+            record {
+              rounds = worked.2.0;
+              worked = server_of n later;
+              frames = frames;
+              works = subst (λ (j : Machine). AreRounds (server_of j worked.0) connection true worked.2.0 (server_of n later)) is worked.2.1;
+              hands = hands;
+              left = refl;
+              spelled = refl;
+            },
+          );
+    }
+
+-- first bytes of what is queued then are first bytes of what is to be written for the frame
+pub answer_front : (m k n : Machine) (f : Frame) (answer : Reply) (text : List ℕ) → Plays m (event.Frame connection f 0) answer k → answer ≢ reply.NoMemory
+    → Proceeds connection (AreAllRounds connection) k n → IsQueueFront n text → IsAnswerFront m f text
+answer_front m k n f answer text plays ne rounds (inl none) = inl none
+answer_front m k n f answer text plays ne rounds (inr part) =
+    inr (flat_map spelling part.0, part.1, part.2, one_answered m k n part.1 f answer part.0 plays ne rounds part.3, part.4)
+
+-- first bytes of what was queued
+pub queue_front : (a b : Option (List ℕ)) (m n : Machine) (frames : List Frame) (bytes : List ℕ) → HandsOut m connection frames n → bytes ≡ flat_map spelling frames → AppendsFirst a b bytes
+    → (text : List ℕ) × Appends a b text × IsQueueFront m text
+queue_front a b m n frames bytes hands is puts = (take puts.0 bytes, puts.1, inr (frames, n, puts.0, hands, ap (take puts.0) is))
+
 -- one frame more is answered
 pub one_behind : (old held : Held) (m n : Machine) (input before text : List ℕ) (f : Frame)
     → ((fed : List ℕ) (handed : List Frame) → Follows fed handed old → Follows fed (handed ++ f ∷ []) held)
-    → AnswersFrame m f 0 text n → IsBehind old m input before → IsBehind held n input (before ++ text)
+    → AnswersOne m f text n → IsBehind old m input before → IsBehind held n input (before ++ text)
 one_behind old held m n input before text f next one so = record {
   handed = so.handed ++ f ∷ [];
   body = so.body ++ text;
   follows = next input so.handed so.follows;
-  answers = answers_push at_start m n so.handed f so.body text so.answers one;
+  answers = push m n so.handed f so.body text so.answers one;
   begins = ap (λ t. t ++ text) so.begins ∙ append_assoc banner so.body text;
 }
 
+-- nothing was written yet
+pub none_behind : (held : Held) (m : Machine) (a : Option (List ℕ)) (input before : List ℕ) → IsBehind held m input before → (text : List ℕ) × Appends a a text × IsBehind held m input (before ++ text)
+none_behind held m a input before is = ([], appends_nothing a, subst (IsBehind held m input) (sym (append-nil before)) is)
+
 -- all that were ready are answered
-pub all_behind : (held : Held) (m : Machine) (input text : List ℕ) → held.ready ≡ [] → IsBehind held m input text → IsAnswered input [] text held.rest m
+pub all_behind : (held : Held) (m : Machine) (input text : List ℕ) → held.ready ≡ [] → IsBehind held m input text → IsAnsweredSoFar input text held.rest m
 all_behind held m input text none so = record {
   frames = so.handed;
   body = so.body;
@@ -66,7 +140,7 @@ all_behind held m input text none so = record {
 -- what is answered, once more was fed
 pub behind : (old held : Held) (m : Machine) (input piece text : List ℕ) → old.ready ≡ []
     → ((fed : List ℕ) (handed : List Frame) → Follows fed handed old → Follows (fed ++ piece) handed held)
-    → IsAnswered input [] text old.rest m → IsBehind held m (input ++ piece) text
+    → IsAnsweredSoFar input text old.rest m → IsBehind held m (input ++ piece) text
 behind old held m input piece text none feeds is = record {
   handed = is.frames;
   body = is.body;
@@ -75,96 +149,105 @@ behind old held m input piece text none feeds is = record {
   begins = is.begins;
 }
 
+-- what is answered where no call is refused later
+pub answered_last : (input text rest : List ℕ) (m : Machine) → IsAnsweredSoFar input text rest m → (refused : List ReqNo) × IsAnswered input [] refused text rest m
+answered_last input text rest m is =
+    let all = at_last is.frames is.body m is.answers in
+    (all.0, record { frames = is.frames; body = is.body; whole = is.whole; answers = all.1; begins = is.begins })
+
 -- ---- parts of what is to be written
 
--- what is written for first frames of the input is a part of it
-pub part_begun : (input text rest body : List ℕ) (frames later : List Frame) (m : Machine) → IsWhole input (frames ++ later) rest → Answers at_start frames [] body m → text ≡ banner ++ body → IsPart input text
-part_begun input text rest body frames later m whole answers begins = record {
-  whole = text;
-  count = length text;
-  written = inl (record { front = input; more = []; frames = frames; later = later; rest = rest; body = body; last = m; is = sym (append-nil input); whole = whole; answers = answers; begins = begins });
-  cut = sym (take-length text);
-}
+-- what is written for first frames of a front of the input is a part of it
+part_begun : (input front more text rest body : List ℕ) (frames later : List Frame) (m : Machine) → input ≡ front ++ more → IsWhole front (frames ++ later) rest → AnswersSoFar frames body m → text ≡ banner ++ body → IsPart input text
+part_begun input front more text rest body frames later m is whole so begins =
+    let all = at_last frames body m so in
+    record {
+      whole = text;
+      count = length text;
+      written = inl (record { front = front; more = more; frames = frames; later = later; rest = rest; body = body; refused = all.0; last = m; is = is; whole = whole; answers = all.1; begins = begins });
+      cut = sym (take-length text);
+    }
 
-pub part_answered : (input text rest : List ℕ) (m : Machine) → IsAnswered input [] text rest m → IsPart input text
-part_answered input text rest m is = part_begun input text rest is.body is.frames [] m (subst (λ frames. IsWhole input frames rest) (sym (append-nil is.frames)) is.whole) is.answers is.begins
+pub part_answered : (input text rest : List ℕ) (m : Machine) → IsAnsweredSoFar input text rest m → IsPart input text
+part_answered input text rest m is =
+    part_begun input input [] text rest is.body is.frames [] m (sym (append-nil input)) (subst (λ frames. IsWhole input frames rest) (sym (append-nil is.frames)) is.whole) is.answers is.begins
 
 -- and it is a part of what is to be written for more input
-pub part_unfed : (input more text rest : List ℕ) (m : Machine) → IsAnswered input [] text rest m → IsPart (input ++ more) text
-part_unfed input more text rest m is = record {
-  whole = text;
-  count = length text;
-  written = inl (record { front = input; more = more; frames = is.frames; later = []; rest = rest; body = is.body; last = m; is = refl; whole = subst (λ frames. IsWhole input frames rest) (sym (append-nil is.frames)) is.whole; answers = is.answers; begins = is.begins });
-  cut = sym (take-length text);
-}
+part_unfed : (input more text rest : List ℕ) (m : Machine) → IsAnsweredSoFar input text rest m → IsPart (input ++ more) text
+part_unfed input more text rest m is =
+    part_begun (input ++ more) input more text rest is.body is.frames [] m refl (subst (λ frames. IsWhole input frames rest) (sym (append-nil is.frames)) is.whole) is.answers is.begins
 
 -- first bytes of what is to be written for a frame
-part_whole : (held : Held) (m n : Machine) (input before whole text : List ℕ) (f : Frame) (handed later : List Frame) (body rest : List ℕ) (count : ℕ)
-    → IsWhole input ((handed ++ f ∷ []) ++ later) rest → Answers at_start handed [] body m → before ≡ banner ++ body
-    → AnswersFrame m f 0 whole n → text ≡ take count whole → IsPart input (before ++ text)
-part_whole held m n input before whole text f handed later body rest count all answers begins one is = record {
-  whole = before ++ whole;
-  count = length before + count;
-  written = inl (record {
-    front = input;
-    more = [];
-    frames = handed ++ f ∷ [];
-    later = later;
-    rest = rest;
-    body = body ++ whole;
-    last = n;
-    is = sym (append-nil input);
-    whole = all;
-    answers = answers_push at_start m n handed f body whole answers one;
-    begins = ap (λ t. t ++ whole) begins ∙ append_assoc banner body whole;
-  });
-  cut = ap (λ t. before ++ t) is ∙ sym (take-append-add before whole count);
-}
+part_whole : (m n : Machine) (input before whole text : List ℕ) (f : Frame) (handed later : List Frame) (body rest : List ℕ) (count : ℕ)
+    → IsWhole input ((handed ++ f ∷ []) ++ later) rest → AnswersSoFar handed body m → before ≡ banner ++ body
+    → AnswersOne m f whole n → text ≡ take count whole → IsPart input (before ++ text)
+part_whole m n input before whole text f handed later body rest count all answers begins one is =
+    let last = at_last (handed ++ f ∷ []) (body ++ whole) n (push m n handed f body whole answers one) in
+    record {
+      whole = before ++ whole;
+      count = length before + count;
+      written = inl (record {
+        front = input;
+        more = [];
+        frames = handed ++ f ∷ [];
+        later = later;
+        rest = rest;
+        body = body ++ whole;
+        refused = last.0;
+        last = n;
+        is = sym (append-nil input);
+        whole = all;
+        answers = last.1;
+        begins = ap (λ t. t ++ whole) begins ∙ append_assoc banner body whole;
+      });
+      cut = ap (λ t. before ++ t) is ∙ sym (take-append-add before whole count);
+    }
 
 pub part_answer : (old held : Held) (m : Machine) (input before text : List ℕ) (f : Frame)
     → ((fed : List ℕ) (handed : List Frame) → Follows fed handed old → Follows fed (handed ++ f ∷ []) held)
     → IsAnswerFront m f text → IsBehind old m input before → IsPart input (before ++ text)
 part_answer old held m input before text f next (inl none) so =
     subst (λ t. IsPart input t) (sym (ap (λ t. before ++ t) none ∙ append-nil before))
-    (part_begun input before old.rest so.body so.handed old.ready m so.follows so.answers so.begins)
+    (part_begun input input [] before old.rest so.body so.handed old.ready m (sym (append-nil input)) so.follows so.answers so.begins)
 part_answer old held m input before text f next (inr part) so =
-    part_whole held m part.1 input before part.0 text f so.handed held.ready so.body held.rest part.2 (next input so.handed so.follows) so.answers so.begins part.3 part.4
+    part_whole m part.1 input before part.0 text f so.handed held.ready so.body held.rest part.2 (next input so.handed so.follows) so.answers so.begins part.3 part.4
 
 -- ---- the end
 
-pub ended : (input before rest : List ℕ) (offset : ℕ) (how : Finish) (m n last : Machine) (frames : List Frame) → IsAnswered input [] before rest m → EndsAs how rest → offset + length rest ≡ length input
-    → n ≡ after m (event.Ended connection how) → HandsOut n connection frames last → IsStdioOut input [] how offset (before ++ flat_map spelling frames)
-ended input before rest offset how m n last frames is ends place same hands = record {
-  front = before;
-  rest = rest;
-  before = m;
-  last = last;
-  frames = frames;
-  answered = is;
-  ends = ends;
-  place = place;
-  hands = subst (λ n. HandsOut n connection frames last) same hands;
-  whole = refl;
-}
+ended : (input before rest : List ℕ) (offset : ℕ) (how : Finish) (m last : Machine) (frames : List Frame) → IsAnsweredSoFar input before rest m → EndsAs how rest → offset + length rest ≡ length input
+    → HandsOut (after m (event.Ended connection how)) connection frames last → (refused : List ReqNo) × IsStdioOut input [] refused how offset (before ++ flat_map spelling frames)
+ended input before rest offset how m last frames is ends place hands =
+    let answered = answered_last input before rest m is in (
+      answered.0,
+      record { front = before; rest = rest; before = m; last = last; frames = frames; answered = answered.1; ends = ends; place = place; hands = hands; whole = refl },
+    )
 
-pub part_end : (input before rest text : List ℕ) (offset : ℕ) (how : Finish) (m n : Machine) → IsAnswered input [] before rest m → EndsAs how rest → offset + length rest ≡ length input
+pub out_behind : (input before rest : List ℕ) (offset : ℕ) (how : Finish) (m n last : Machine) (frames : List Frame) (a b : Option (List ℕ)) → IsAnsweredSoFar input before rest m → EndsAs how rest
+    → offset + length rest ≡ length input → n ≡ after m (event.Ended connection how) → HandsOut n connection frames last → Appends a b (flat_map spelling frames) → IsOutBehind input how offset before a b
+out_behind input before rest offset how m n last frames a b is ends place same hands puts =
+    let out = ended input before rest offset how m last frames is ends place (subst (λ (k : Machine). HandsOut k connection frames last) same hands) in
+    (flat_map spelling frames, puts, out.0, out.1)
+
+pub part_end : (input before rest text : List ℕ) (offset : ℕ) (how : Finish) (m n : Machine) → IsAnsweredSoFar input before rest m → EndsAs how rest → offset + length rest ≡ length input
     → n ≡ after m (event.Ended connection how) → IsQueueFront n text → IsPart input (before ++ text)
 part_end input before rest text offset how m n is ends place same (inl none) = subst (λ t. IsPart input t) (sym (ap (λ t. before ++ t) none ∙ append-nil before)) (part_answered input before rest m is)
-part_end input before rest text offset how m n is ends place same (inr part) = record {
-  whole = before ++ flat_map spelling part.0;
-  count = length before + part.2;
-  written = inr (how, offset, ended input before rest offset how m n part.1 part.0 is ends place same part.3);
-  cut = ap (λ t. before ++ t) part.4 ∙ sym (take-append-add before (flat_map spelling part.0) part.2);
-}
+part_end input before rest text offset how m n is ends place same (inr part) =
+    let out = ended input before rest offset how m part.1 part.0 is ends place (subst (λ (k : Machine). HandsOut k connection part.0 part.1) same part.3) in
+    record {
+      whole = before ++ flat_map spelling part.0;
+      count = length before + part.2;
+      written = inr (record { how = how; offset = offset; refused = out.0; out = out.1 });
+      cut = ap (λ t. before ++ t) part.4 ∙ sym (take-append-add before (flat_map spelling part.0) part.2);
+    }
 
 -- nothing more is written
-pub part_here : (held : Option (List ℕ)) (input before rest : List ℕ) (m : Machine) → IsAnswered input [] before rest m → IsPartBehind input before held held
+pub part_here : (held : Option (List ℕ)) (input before rest : List ℕ) (m : Machine) → IsAnsweredSoFar input before rest m → IsPartBehind input before held held
 part_here held input before rest m is = ([], appends_nothing held, subst (λ t. IsPart input t) (sym (append-nil before)) (part_answered input before rest m is))
 
 -- ---- offsets
 
 -- what is left is part of the input
-pub rest_within : (input text rest : List ℕ) (m : Machine) → IsAnswered input [] text rest m → length rest ≤ length input
+pub rest_within : (input text rest : List ℕ) (m : Machine) → IsAnsweredSoFar input text rest m → length rest ≤ length input
 rest_within input text rest m is = rw (is.whole.whole, length-append (flat_map spelling is.frames) rest) (omega arith)
 
 pub rest_fed : (s : Session) (fault : Option FrameFault) (input text : List ℕ) → IsAt s fault input text → length s.framer.rest ≤ s.fed
@@ -203,17 +286,7 @@ always_err (Err e) y = y
 
 -- ---- the beginning
 
-pub part_at_start : (held : Held) (m : Option (List ℕ)) → Follows [] [] held → IsPartBehind [] [] m m
-part_at_start held m follows = ([], appends_nothing m, at_banner held [] 0 refl follows)
-  where
-    at_banner : (held : Held) (text : List ℕ) (n : ℕ) → text ≡ take n (banner ++ []) → Follows [] [] held → IsPart [] text
-    at_banner held text n is follows = record {
-      whole = banner ++ [];
-      count = n;
-      written = inl (record { front = []; more = []; frames = []; later = held.ready; rest = held.rest; body = []; last = at_start; is = refl; whole = follows; answers = (refl, refl); begins = refl });
-      cut = is;
-    }
-
+-- first bytes of the banner
 pub part_in_banner : (held : Held) (a b : Option (List ℕ)) (n : ℕ) → Follows [] [] held → Appends a b (take n banner) → IsPartBehind [] [] a b
 part_in_banner held a b n follows puts = (
   take n banner,
@@ -221,10 +294,13 @@ part_in_banner held a b n follows puts = (
   record {
     whole = banner ++ [];
     count = n;
-    written = inl (record { front = []; more = []; frames = []; later = held.ready; rest = held.rest; body = []; last = at_start; is = refl; whole = follows; answers = (refl, refl); begins = refl });
+    written = inl (record { front = []; more = []; frames = []; later = held.ready; rest = held.rest; body = []; refused = []; last = at_start; is = refl; whole = follows; answers = (refl, refl); begins = refl });
     cut = ap (take n) (sym (append-nil banner));
   },
 )
+
+pub part_at_start : (held : Held) (m : Option (List ℕ)) → Follows [] [] held → IsPartBehind [] [] m m
+part_at_start held m follows = part_in_banner held m m 0 follows (appends_nothing m)
 
 pub at_begin : (s : Session) → s.framer.ready ≡ [] → s.framer.rest ≡ [] → s.framer.stop ≡ None → Follows [] [] s.framer → IsStop s.framer.stop s.framer.rest → s.hub ≡ at_start → s.fed ≡ 0
     → IsAt s None [] banner
@@ -233,7 +309,7 @@ at_begin s ready rest stop follows met hub fed = record {
     frames = [];
     body = [];
     whole = subst (λ frames. IsWhole [] frames s.framer.rest) ready follows;
-    answers = (refl, hub);
+    answers = none_yet s.hub hub;
     begins = sym (append-nil banner);
   };
   ready = ready;
@@ -248,7 +324,7 @@ at_begin s ready rest stop follows met hub fed = record {
 pub fed_more : (s t : Session) (mid : Held) (fed : Result Unit FrameFault) (fault : Option FrameFault) (input piece before text : List ℕ) → IsAt s None input before → IsMet fed fault
     → OnOk fed ((mid.stop ≡ None) × NoFault mid.rest) → IfErr fed (λ e. e ≢ frame_fault.NoMemory → (mid.stop ≡ Some e) × HasFault mid.rest e)
     → t.framer.ready ≡ [] → t.framer.rest ≡ mid.rest → t.framer.stop ≡ mid.stop → t.fed ≡ s.fed + length piece → s.fed + length piece ≤ most_input
-    → IsBytes piece → IsAnswered (input ++ piece) [] (before ++ text) t.framer.rest t.hub → IsAt t fault (input ++ piece) (before ++ text)
+    → IsBytes piece → IsAnsweredSoFar (input ++ piece) (before ++ text) t.framer.rest t.hub → IsAt t fault (input ++ piece) (before ++ text)
 fed_more s t mid fed fault input piece before text is met ok err ready rest stop count few octets answered =
     let stopped = met_stop mid fed fault met ok err in
     let same = is.fed in
@@ -272,7 +348,7 @@ fed_behind s mid fed fault input piece before is met ok err feeds =
 
 -- nothing more is written, though more came
 pub part_unread : (held : Option (List ℕ)) (s : Session) (input more before : List ℕ) → IsAt s None input before → IsPartBehind (input ++ more) before held held
-part_unread held s input more before is = ([], appends_nothing held, part_unfed input more (before ++ []) s.framer.rest s.hub (subst (λ t. IsAnswered input [] t s.framer.rest s.hub) (sym (append-nil before)) is.answered))
+part_unread held s input more before is = ([], appends_nothing held, part_unfed input more (before ++ []) s.framer.rest s.hub (subst (λ t. IsAnsweredSoFar input t s.framer.rest s.hub) (sym (append-nil before)) is.answered))
 
 -- ---- the first bytes of the input
 
@@ -292,12 +368,13 @@ pub too_much : (input piece : List ℕ) (room : ℕ) → room ≡ min (most_inpu
 too_much input piece room is some = rw (length-append input piece) (omega arith)
 
 -- what a fault ended is served, behind what was written before
-pub broken_serves : (offset : ℕ) (fault : FrameFault) (taken input before text more : List ℕ) (a b c : Option (List ℕ)) → take most_input taken ≡ input → Appends a b text
-    → Appends b c more → IsStdioOut input [] (finish.Bad fault) offset ((before ++ text) ++ more) → IsServedBehind (end.BadAt offset) taken before a c
-broken_serves offset fault taken input before text more a b c front puts then is = (
-  text ++ more,
-  appends_then a b c text more puts then,
-  (fault, rw (front, ← append_assoc before text more) is),
+pub broken_serves : (offset : ℕ) (fault : FrameFault) (taken input before text : List ℕ) (a b c : Option (List ℕ)) → take most_input taken ≡ input → Appends a b text
+    → IsOutBehind input (finish.Bad fault) offset (before ++ text) b c → IsServedBehind (end.BadAt offset) taken before a c
+broken_serves offset fault taken input before text a b c front puts out = (
+  text ++ out.0,
+  appends_then a b c text out.0 puts out.1,
+  out.2,
+  (fault, rw (front, ← append_assoc before text out.0) out.3),
 )
 
 -- so is what stopped at a fault
@@ -306,8 +383,11 @@ broken_part taken input before text a b c front puts is =
     (text ++ is.0, appends_then a b c text is.0 puts is.1, rw (front, ← append_assoc before text is.0) is.2)
 
 -- too much came
-pub much_serves : (s : Session) (taken input before text : List ℕ) → take most_input taken ≡ input → most_input < length taken → IsAt s None input (before ++ text) → Serves end.TooMuch taken [] (before ++ text)
-much_serves s taken input before text front more is = (more, subst (λ t. IsUnended t [] (before ++ text)) (sym front) (s.framer.rest, s.hub, is.answered, is.met))
+pub much_serves : (s : Session) (taken input before text : List ℕ) → take most_input taken ≡ input → most_input < length taken → IsAt s None input (before ++ text)
+    → (refused : List ReqNo) × Serves end.TooMuch taken [] refused (before ++ text)
+much_serves s taken input before text front more is =
+    let answered = answered_last input (before ++ text) s.framer.rest s.hub is.answered in
+    (answered.0, (more, subst (λ t. IsUnended t [] answered.0 (before ++ text)) (sym front) (s.framer.rest, s.hub, answered.1, is.met)))
 
 -- ---- the end between two frames, and inside one
 

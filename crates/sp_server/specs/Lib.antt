@@ -1,3 +1,4 @@
+pub mod Waiting
 pub mod Serving
 pub mod Stdio
 pub mod Session

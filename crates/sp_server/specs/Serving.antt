@@ -1,24 +1,60 @@
 -- How the open calls of a connection are worked, and its frames handed out.
-use Rattle.std.specs.Prelude.{◌≡◌, ℕ, Bool, true, false, ◌||◌, List, [], ◌∷◌, ◌++◌, None, Some}
+use Rattle.std.specs.Prelude.{◌≡◌, ℕ, ◌==◌, Bool, true, false, not, ◌||◌, List, [], ◌∷◌, ◌++◌, None, Some, if◌then◌else◌}
 use Rattle.sp_base.specs.declared.names.ConnNo.{ConnNo}
 use Rattle.sp_base.specs.declared.names.ReqNo.{ReqNo}
+use Rattle.sp_base.specs.declared.names.SpError.TheVariants.{Memory}
 use Rattle.sp_frames.specs.declared.frame.Frame.{Frame}
 use Rattle.sp_frames.specs.Grammar.{spelling}
-use Rattle.sp_hub.specs.declared.event.Event.{Event}
-use Rattle.sp_hub.specs.declared.event.Event.TheVariants.{Work, Take}
-use Rattle.sp_hub.specs.declared.event.Reply.{Reply}
-use Rattle.sp_hub.specs.declared.event.Reply.TheVariants.{Done, Out}
-use Rattle.sp_hub.specs.Machine.{Machine, played}
-use Rattle.sp_hub.specs.Run.{Exchange}
-use Rattle.sp_hub.specs.Task.{IsLowest, open_calls}
+use Rattle.hub_model.specs.declared.event.Event.{Event}
+use Rattle.hub_model.specs.declared.event.Event.TheVariants.{Work, Take}
+use Rattle.hub_model.specs.declared.event.Reply.{Reply}
+use Rattle.hub_model.specs.declared.event.Reply.TheVariants.{Done, Out, Refused}
+use Rattle.hub_model.specs.Machine.{played}
+use Rattle.hub_model.specs.Run.{Exchange}
+use Rattle.hub_model.specs.State.{Machine}
+use Rattle.hub_model.specs.Task.{IsLowest, open_calls}
 
--- what the server answers to an event
+-- what the server answers to an event, where it gets the memory that it asks for
 abbrev pub reply_to : Machine → Event → Reply
-reply_to m event = (played m event).0
+reply_to m event = (played true m event).0
 
--- the server after an event
+-- the server after such an event
 abbrev pub after : Machine → Event → Machine
-after m event = (played m event).1
+after m event = (played true m event).1
+
+-- ---- want of memory
+
+-- the server, and the calls that are still to be refused for memory, the next one first
+pub record Server : Type 0 where
+  pub machine : Machine
+  pub refused : List ReqNo
+
+-- a server with calls that are still to be refused
+abbrev pub server_of : Machine → List ReqNo → Server
+server_of m refused = record { machine = m; refused = refused }
+
+-- a call gets the memory that it takes: it isn't the next one to be refused
+abbrev pub has_memory : List ReqNo → ReqNo → Bool
+has_memory [] r = true
+has_memory (next ∷ refused) r = not (next.0 == r.0)
+
+-- a call was refused for memory
+abbrev pub is_refused : Reply → Bool
+is_refused (Refused Memory) = true
+is_refused _ = false
+
+-- the calls that are still to be refused behind a reply
+abbrev pub refused_behind : List ReqNo → Reply → List ReqNo
+refused_behind [] answer = []
+refused_behind (next ∷ refused) answer = if is_refused answer then refused else next ∷ refused
+
+-- what the server answers where a call is worked
+abbrev pub work_reply : Server → ConnNo → ReqNo → Reply
+work_reply s c r = (played (has_memory s.refused r) s.machine (Work c r)).0
+
+-- the server after a call is worked
+abbrev pub after_work : Server → ConnNo → ReqNo → Server
+after_work s c r = server_of (played (has_memory s.refused r) s.machine (Work c r)).1 (refused_behind s.refused (work_reply s c r))
 
 -- ---- rounds of work
 
@@ -28,25 +64,26 @@ is_done Done = true
 is_done _ = false
 
 -- the server after the calls of these numbers are worked, one after the other
-abbrev pub worked : Machine → ConnNo → List ReqNo → Machine
-worked m c [] = m
-worked m c (r ∷ numbers) = worked (after m (Work c r)) c numbers
+abbrev pub worked : Server → ConnNo → List ReqNo → Server
+worked s c [] = s
+worked s c (r ∷ numbers) = worked (after_work s c r) c numbers
 
 -- one of the calls of these numbers is performed
-abbrev pub performs : Machine → ConnNo → List ReqNo → Bool
-performs m c [] = false
-performs m c (r ∷ numbers) = is_done (reply_to m (Work c r)) || performs (after m (Work c r)) c numbers
+abbrev pub performs : Server → ConnNo → List ReqNo → Bool
+performs s c [] = false
+performs s c (r ∷ numbers) = is_done (work_reply s c r) || performs (after_work s c r) c numbers
 
--- the open calls above a number, in rising number: each is the lowest one that is open when the one before it was worked
-abbrev pub AreOpen : Machine → ConnNo → ReqNo → List ReqNo → Type 0
-AreOpen m c above [] = IsLowest (open_calls m c) above None
-AreOpen m c above (r ∷ numbers) = IsLowest (open_calls m c) above (Some r) × AreOpen (after m (Work c r)) c r numbers
+-- the open calls above a number that wait, in rising number: each is the lowest one that waits when the one before it was worked
+abbrev pub AreOpen : Server → ConnNo → ReqNo → List ReqNo → Type 0
+AreOpen s c above [] = IsLowest (open_calls s.machine c) above None
+AreOpen s c above (r ∷ numbers) = IsLowest (open_calls s.machine c) above (Some r) × AreOpen (after_work s c r) c r numbers
 
--- rounds of work, a first one if `again` says so: each works every open call once, in rising number, and another follows exactly if one of them was performed
-abbrev pub AreRounds : Machine → ConnNo → Bool → List (List ReqNo) → Machine → Type 0
-AreRounds m c again [] m' = (again ≡ false) × (m' ≡ m)
-AreRounds m c again (numbers ∷ rounds) m' =
-    (again ≡ true) × AreOpen m c (record { 0 = 0 }) numbers × AreRounds (worked m c numbers) c (performs m c numbers) rounds m'
+-- rounds of work, a first one if `again` says so: each works every call that waits once, in rising number, and another follows
+-- exactly if one of them was performed
+abbrev pub AreRounds : Server → ConnNo → Bool → List (List ReqNo) → Server → Type 0
+AreRounds s c again [] s' = (again ≡ false) × (s' ≡ s)
+AreRounds s c again (numbers ∷ rounds) s' =
+    (again ≡ true) × AreOpen s c (record { 0 = 0 }) numbers × AreRounds (worked s c numbers) c (performs s c numbers) rounds s'
 
 -- ---- handing out
 

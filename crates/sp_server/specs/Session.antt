@@ -1,7 +1,9 @@
 -- How far a session is: an aid of the contracts behind the public one. By now no salt is drawn.
-use Rattle.std.specs.Prelude.{◌≡◌, ◌≢◌, ◌⊎◌, ℕ, ◌≤◌, Option, Some, None, List, [], ◌++◌, length, take, Result, Ok, Err, IsErrOf, ⊤}
+use Rattle.std.specs.Prelude.{◌≡◌, ◌≢◌, ◌⊎◌, ℕ, ◌≤◌, Bool, true, Option, Some, None, List, [], ◌∷◌, ◌++◌, length, take, Result, Ok, Err, IsErrOf, ⊤}
 use Rattle.std.specs.List.{flat_map}
 use Rattle.std.specs.Io.KnownBytes.{Appends}
+use Rattle.sp_base.specs.declared.names.ConnNo.{ConnNo}
+use Rattle.sp_base.specs.declared.names.ReqNo.{ReqNo}
 use Rattle.sp_io.specs.Causes.{Rose}
 use Rattle.sp_frames.specs.declared.fault.FrameFault.{FrameFault}
 use Rattle.sp_frames.specs.declared.fault.FrameFault.TheVariants as frame_fault
@@ -11,16 +13,19 @@ use Rattle.sp_frames.specs.Banner.{banner}
 use Rattle.sp_frames.specs.Grammar.{spelling}
 use Rattle.sp_frames.specs.Framing.{Held, Follows, IsStop}
 use Rattle.sp_frames.specs.Stream.{IsWhole}
-use Rattle.sp_hub.specs.declared.event.Finish.{Finish}
-use Rattle.sp_hub.specs.Machine.{Machine}
+use Rattle.kern_model.specs.Journal.{IsNew}
+use Rattle.kern_model.specs.declared.journal.Who.TheVariants.{Request}
+use Rattle.hub_model.specs.declared.event.Finish.{Finish}
+use Rattle.hub_model.specs.Sound.{IsSound}
+use Rattle.hub_model.specs.State.{Machine}
 use Rattle.sp_server.specs.declared.session.Session.{Session}
 use Rattle.sp_server.specs.declared.session.Stop.{Stop}
 use Rattle.sp_server.specs.declared.session.Stop.TheVariants.{Output}
 use Rattle.sp_server.specs.declared.session.Stop.TheVariants as stop
 use Rattle.sp_server.specs.declared.stdio.StdioEnd.{StdioEnd}
 use Rattle.sp_server.specs.declared.stdio.StdioEnd.TheVariants.{OutputFault, NoMemory}
-use Rattle.sp_server.specs.Serving.{HandsOut}
-use Rattle.sp_server.specs.Stdio.{connection, at_start, most_input, AnswersFrame, Answers, IsAnswered, IsStdioOut, Serves}
+use Rattle.sp_server.specs.Serving.{Server, server_of, worked, performs, AreOpen, AreRounds, HandsOut}
+use Rattle.sp_server.specs.Stdio.{connection, at_start, most_input, AnswersFrame, Answers, IsStdioOut, Serves}
 
 -- the count never fell, and a stop for the sink comes only where it rose
 pub record HasStopCause {T : Type 0} (before now : ℕ) (result : Result T Stop) : Type 0 where
@@ -37,17 +42,56 @@ abbrev pub outcome : Result StdioEnd Stop → StdioEnd
 outcome (Ok end) = end
 outcome (Err stop) = end_of stop
 
+-- ---- want of memory
+
+-- these calls can be refused for memory from now on: the first of them wasn't performed yet
+abbrev pub MayRefuse : ConnNo → Machine → List ReqNo → Type 0
+MayRefuse c m [] = ⊤
+MayRefuse c m (r ∷ refused) = IsNew (Request c r) m.journal
+
+-- a step of the server, with calls that it refuses for memory, whichever are refused later; it keeps the server sound
+pub record Proceeds (c : ConnNo) (step : Server → Server → Type 0) (m m' : Machine) : Type 0 where
+  pub keeps : IsSound m → IsSound m'
+  pub steps : IsSound m → (later : List ReqNo) → MayRefuse c m' later
+      → (refused : List ReqNo) × MayRefuse c m refused × step (server_of m refused) (server_of m' later)
+
+-- a round of work, in which a call is performed or none is
+abbrev pub IsRound : ConnNo → Bool → Server → Server → Type 0
+IsRound c again s s' = (numbers : List ReqNo) × AreOpen s c (record { 0 = 0 }) numbers × (s' ≡ worked s c numbers) × (again ≡ performs s c numbers)
+
+-- rounds of work until no call can be performed
+abbrev pub AreAllRounds : ConnNo → Server → Server → Type 0
+AreAllRounds c s s' = (rounds : List (List ReqNo)) × AreRounds s c true rounds s'
+
+-- ---- how far a session is
+
+-- this is written for frames, whichever calls are refused later
+abbrev pub AnswersSoFar : List Frame → List ℕ → Machine → Type 0
+AnswersSoFar frames text m = Proceeds connection (λ s s'. Answers s frames [] text s') at_start m
+
+-- this is written for a frame, whichever calls are refused later
+abbrev pub AnswersOne : Machine → Frame → List ℕ → Machine → Type 0
+AnswersOne m f text m' = Proceeds connection (λ s s'. AnswersFrame s f 0 text s') m m'
+
 -- some of the frames that the input gave are answered, and the others are ready
 pub record IsBehind (held : Held) (m : Machine) (input text : List ℕ) : Type 0 where
   pub handed : List Frame
   pub body : List ℕ
   pub follows : Follows input handed held
-  pub answers : Answers at_start handed [] body m
+  pub answers : AnswersSoFar handed body m
+  pub begins : text ≡ banner ++ body
+
+-- the whole frames of the input are answered, and bytes are left behind them
+pub record IsAnsweredSoFar (input text rest : List ℕ) (m : Machine) : Type 0 where
+  pub frames : List Frame
+  pub body : List ℕ
+  pub whole : IsWhole input frames rest
+  pub answers : AnswersSoFar frames body m
   pub begins : text ≡ banner ++ body
 
 -- the session was fed this input and has written this text: all whole frames are answered, and behind them stands this fault or none
 pub record IsAt (s : Session) (fault : Option FrameFault) (input text : List ℕ) : Type 0 where
-  pub answered : IsAnswered input [] text s.framer.rest s.hub
+  pub answered : IsAnsweredSoFar input text s.framer.rest s.hub
   pub ready : s.framer.ready ≡ []
   pub stopped : s.framer.stop ≡ fault
   pub met : IsStop fault s.framer.rest
@@ -68,7 +112,7 @@ IsQueueFront m text = (text ≡ []) ⊎ (frames : List Frame) × (m' : Machine) 
 
 -- nothing, or first bytes of what is to be written for a frame, is written
 abbrev pub IsAnswerFront : Machine → Frame → List ℕ → Type 0
-IsAnswerFront m f text = (text ≡ []) ⊎ (whole : List ℕ) × (m' : Machine) × (count : ℕ) × AnswersFrame m f 0 whole m' × (text ≡ take count whole)
+IsAnswerFront m f text = (text ≡ []) ⊎ (whole : List ℕ) × (m' : Machine) × (count : ℕ) × AnswersOne m f whole m' × (text ≡ take count whole)
 
 -- what is written for first frames of a front of the input
 pub record IsBegun (input text : List ℕ) : Type 0 where
@@ -78,23 +122,37 @@ pub record IsBegun (input text : List ℕ) : Type 0 where
   pub later : List Frame
   pub rest : List ℕ
   pub body : List ℕ
+  pub refused : List ReqNo
   pub last : Machine
   pub is : input ≡ front ++ more
   pub whole : IsWhole front (frames ++ later) rest
-  pub answers : Answers at_start frames [] body last
+  pub answers : Answers (server_of at_start refused) frames [] body (server_of last [])
   pub begins : text ≡ banner ++ body
+
+-- what is written for all of the input and its end
+pub record IsAllOf (input text : List ℕ) : Type 0 where
+  pub how : Finish
+  pub offset : ℕ
+  pub refused : List ReqNo
+  pub out : IsStdioOut input [] refused how offset text
 
 -- first bytes of what is written for first frames, or for all of the input and its end
 pub record IsPart (input text : List ℕ) : Type 0 where
   pub whole : List ℕ
   pub count : ℕ
-  pub written : IsBegun input whole ⊎ (how : Finish) × (offset : ℕ) × IsStdioOut input [] how offset whole
+  pub written : IsBegun input whole ⊎ IsAllOf input whole
   pub cut : text ≡ take count whole
 
 -- behind what was written before, first bytes of what is to be written for the input are written
 abbrev pub IsPartBehind : List ℕ → List ℕ → Option (List ℕ) → Option (List ℕ) → Type 0
 IsPartBehind input before held held' = (text : List ℕ) × Appends held held' text × IsPart input (before ++ text)
 
+-- behind what was written before, all is written that this end of the input asks for
+abbrev pub IsOutBehind : List ℕ → Finish → ℕ → List ℕ → Option (List ℕ) → Option (List ℕ) → Type 0
+IsOutBehind input how offset before held held' =
+    (text : List ℕ) × Appends held held' text × (refused : List ReqNo) × IsStdioOut input [] refused how offset (before ++ text)
+
 -- behind what was written before, all is written that this end asks for
 abbrev pub IsServedBehind : StdioEnd → List ℕ → List ℕ → Option (List ℕ) → Option (List ℕ) → Type 0
-IsServedBehind end input before held held' = (text : List ℕ) × Appends held held' text × Serves end input [] (before ++ text)
+IsServedBehind end input before held held' =
+    (text : List ℕ) × Appends held held' text × (refused : List ReqNo) × Serves end input [] refused (before ++ text)

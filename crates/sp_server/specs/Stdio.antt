@@ -13,13 +13,14 @@ use Rattle.sp_frames.specs.Banner.{banner}
 use Rattle.sp_frames.specs.Grammar.{spelling}
 use Rattle.sp_frames.specs.Stream.{IsWhole}
 use Rattle.sp_frames.specs.Faults.{HasFault, NoFault}
-use Rattle.sp_hub.specs.declared.event.Event.TheVariants as event
-use Rattle.sp_hub.specs.declared.event.Finish.{Finish}
-use Rattle.sp_hub.specs.declared.event.Finish.TheVariants as finish
-use Rattle.sp_hub.specs.Machine.{Machine, fresh_machine}
+use Rattle.sp_frames.specs.declared.version.Version.TheVariants.{Four}
+use Rattle.hub_model.specs.declared.event.Event.TheVariants as event
+use Rattle.hub_model.specs.declared.event.Finish.{Finish}
+use Rattle.hub_model.specs.declared.event.Finish.TheVariants as finish
+use Rattle.hub_model.specs.State.{Machine, fresh_machine}
 use Rattle.sp_server.specs.declared.stdio.StdioEnd.{StdioEnd}
 use Rattle.sp_server.specs.declared.stdio.StdioEnd.TheVariants.{Clean, BadAt, InsideAt, TooMuch, InputFault, OutputFault, SaltFault, NoMemory}
-use Rattle.sp_server.specs.Serving.{after, AreRounds, HandsOut}
+use Rattle.sp_server.specs.Serving.{Server, server_of, after, AreRounds, HandsOut}
 
 -- standard input and output are the one connection of a server of their own
 abbrev pub connection : ConnNo
@@ -27,7 +28,7 @@ connection = record { 0 = 0 }
 
 -- the server when that connection is open
 abbrev pub at_start : Machine
-at_start = after fresh_machine (event.Opened connection)
+at_start = after (fresh_machine Four) (event.Opened connection)
 
 -- at most so many bytes of input are looked at: 1 GiB
 abbrev pub most_input : ℕ
@@ -54,27 +55,29 @@ salts_behind f (salt ∷ salts) = if takes_salt f.body then salts else salt ∷ 
 -- ---- frames and their answers
 
 -- what is written for a frame with its salt: it happens to the server, the open calls are worked, and all that is queued is handed out
-pub record AnswersFrame (m : Machine) (f : Frame) (salt : ℕ) (text : List ℕ) (m' : Machine) : Type 0 where
+pub record AnswersFrame (s : Server) (f : Frame) (salt : ℕ) (text : List ℕ) (s' : Server) : Type 0 where
   pub rounds : List (List ReqNo)
-  pub worked : Machine
+  pub worked : Server
   pub frames : List Frame
-  pub works : AreRounds (after m (event.Frame connection f salt)) connection true rounds worked
-  pub hands : HandsOut worked connection frames m'
+  pub works : AreRounds (record s { machine = after s.machine (event.Frame connection f salt) }) connection true rounds worked
+  pub hands : HandsOut worked.machine connection frames s'.machine
+  pub left : s'.refused ≡ worked.refused
   pub spelled : text ≡ flat_map spelling frames
 
 -- what is written for frames, one after the other; those that take a salt get these, in order
-abbrev pub Answers : Machine → List Frame → List ℕ → List ℕ → Machine → Type 0
-Answers m [] salts text m' = (text ≡ []) × (m' ≡ m)
-Answers m (f ∷ frames) salts text m' =
-    (middle : Machine) × (first : List ℕ) × (rest : List ℕ) × AnswersFrame m f (salt_for f salts) first middle
-    × Answers middle frames (salts_behind f salts) rest m' × (text ≡ first ++ rest)
+abbrev pub Answers : Server → List Frame → List ℕ → List ℕ → Server → Type 0
+Answers s [] salts text s' = (text ≡ []) × (s' ≡ s)
+Answers s (f ∷ frames) salts text s' =
+    (middle : Server) × (first : List ℕ) × (rest : List ℕ) × AnswersFrame s f (salt_for f salts) first middle
+    × Answers middle frames (salts_behind f salts) rest s' × (text ≡ first ++ rest)
 
--- what is written for the whole frames of the input, behind the banner; some bytes are left behind the frames
-pub record IsAnswered (input salts text rest : List ℕ) (m : Machine) : Type 0 where
+-- what is written for the whole frames of the input, behind the banner, where just these calls are refused for memory, in this order;
+-- some bytes are left behind the frames
+pub record IsAnswered (input salts : List ℕ) (refused : List ReqNo) (text rest : List ℕ) (m : Machine) : Type 0 where
   pub frames : List Frame
   pub body : List ℕ
   pub whole : IsWhole input frames rest
-  pub answers : Answers at_start frames salts body m
+  pub answers : Answers (server_of at_start refused) frames salts body (server_of m [])
   pub begins : text ≡ banner ++ body
 
 -- ---- the end of the input
@@ -87,43 +90,44 @@ EndsAs (finish.Bad fault) rest = HasFault rest fault
 
 -- what is written for input that ends like this: its whole frames are answered, its end happens to the server, and what is queued then is
 -- handed out; the whole frames have `offset` bytes
-pub record IsStdioOut (input salts : List ℕ) (how : Finish) (offset : ℕ) (text : List ℕ) : Type 0 where
+pub record IsStdioOut (input salts : List ℕ) (refused : List ReqNo) (how : Finish) (offset : ℕ) (text : List ℕ) : Type 0 where
   pub front : List ℕ
   pub rest : List ℕ
   pub before : Machine
   pub last : Machine
   pub frames : List Frame
-  pub answered : IsAnswered input salts front rest before
+  pub answered : IsAnswered input salts refused front rest before
   pub ends : EndsAs how rest
   pub place : offset + length rest ≡ length input
   pub hands : HandsOut (after before (event.Ended connection how)) connection frames last
   pub whole : text ≡ front ++ flat_map spelling frames
 
 -- what is written for the whole frames of input that doesn't end there, and has no fault behind them
-abbrev pub IsUnended : List ℕ → List ℕ → List ℕ → Type 0
-IsUnended input salts text = (rest : List ℕ) × (m : Machine) × IsAnswered input salts text rest m × NoFault rest
+abbrev pub IsUnended : List ℕ → List ℕ → List ReqNo → List ℕ → Type 0
+IsUnended input salts refused text = (rest : List ℕ) × (m : Machine) × IsAnswered input salts refused text rest m × NoFault rest
 
 -- first bytes of what is written for the input, ended as it ends
-pub record IsCutOff (input salts text : List ℕ) : Type 0 where
+pub record IsCutOff (input salts : List ℕ) (refused : List ReqNo) (text : List ℕ) : Type 0 where
   pub how : Finish
   pub offset : ℕ
   pub whole : List ℕ
   pub count : ℕ
-  pub out : IsStdioOut input salts how offset whole
+  pub out : IsStdioOut input salts refused how offset whole
   pub cut : text ≡ take count whole
 
 -- ---- the whole run
 
--- the end that is answered, by the bytes that were taken, the salts that were drawn, and the text that was written for them
-abbrev pub Serves : StdioEnd → List ℕ → List ℕ → List ℕ → Type 0
-Serves Clean taken salts text = (length taken ≤ most_input) × IsStdioOut taken salts finish.Clean (length taken) text
-Serves (InsideAt offset) taken salts text = (length taken ≤ most_input) × IsStdioOut taken salts finish.Inside offset text
-Serves (BadAt offset) taken salts text = (fault : FrameFault) × IsStdioOut (take most_input taken) salts (finish.Bad fault) offset text
-Serves TooMuch taken salts text = (most_input < length taken) × IsUnended (take most_input taken) salts text
-Serves InputFault taken salts text = (length taken ≤ most_input) × IsUnended taken salts text
-Serves OutputFault taken salts text = IsCutOff (take most_input taken) salts text
-Serves SaltFault taken salts text = ⊥
-Serves NoMemory taken salts text = IsCutOff (take most_input taken) salts text
+-- the end that is answered, by the bytes that were taken, the salts that were drawn, the calls that were refused for memory, and the
+-- text that was written for them
+abbrev pub Serves : StdioEnd → List ℕ → List ℕ → List ReqNo → List ℕ → Type 0
+Serves Clean taken salts refused text = (length taken ≤ most_input) × IsStdioOut taken salts refused finish.Clean (length taken) text
+Serves (InsideAt offset) taken salts refused text = (length taken ≤ most_input) × IsStdioOut taken salts refused finish.Inside offset text
+Serves (BadAt offset) taken salts refused text = (fault : FrameFault) × IsStdioOut (take most_input taken) salts refused (finish.Bad fault) offset text
+Serves TooMuch taken salts refused text = (most_input < length taken) × IsUnended (take most_input taken) salts refused text
+Serves InputFault taken salts refused text = (length taken ≤ most_input) × IsUnended taken salts refused text
+Serves OutputFault taken salts refused text = IsCutOff (take most_input taken) salts refused text
+Serves SaltFault taken salts refused text = ⊥
+Serves NoMemory taken salts refused text = IsCutOff (take most_input taken) salts refused text
 
 -- the end of the input was met
 abbrev pub is_read : StdioEnd → Bool
@@ -139,16 +143,17 @@ pub record Told : Type 0 where
   pub drawn : Option (List ℕ)
 
 -- a run, by what is told before and after it: what was taken of the source, all of it where its end was met, what was written to the sink for it,
--- and what was drawn of the salt: nothing, since by now no frame's answer needs one
+-- what was drawn of the salt: nothing, since by now no frame's answer needs one; and which calls were refused for memory
 pub record IsServed (old new : Told) (end : StdioEnd) : Type 0 where
   pub taken : List ℕ
   pub salts : List ℕ
+  pub refused : List ReqNo
   pub text : List ℕ
   pub source : Consumes old.left new.left taken
   pub counted : Appends old.passed new.passed taken
   pub sink : Appends old.held new.held text
   pub salt : Appends old.drawn new.drawn salts
-  pub serves : Serves end taken salts text
+  pub serves : Serves end taken salts refused text
   pub all : is_read end ≡ true → IsAll old.left taken
   pub none_drawn : salts ≡ []
 
@@ -161,9 +166,9 @@ is_decided TooMuch = true
 is_decided _ = false
 
 -- a run over this input takes as much of it as its end asks for, all where its end is met, and writes this text
-pub record Ends (end : StdioEnd) (input salts text : List ℕ) : Type 0 where
+pub record Ends (end : StdioEnd) (input salts : List ℕ) (refused : List ReqNo) (text : List ℕ) : Type 0 where
   pub taken : List ℕ
   pub later : List ℕ
   pub whole : input ≡ taken ++ later
   pub all : is_read end ≡ true → later ≡ []
-  pub serves : Serves end taken salts text
+  pub serves : Serves end taken salts refused text

@@ -1,10 +1,11 @@
 //! How the open calls of a connection are worked, and its frames handed out.
-ghost use Rattle.std.specs.Prelude.{◌≡◌, ◌≢◌, ◌++◌, ℕ, List, true, OnOk, IfOk};
+ghost use Rattle.std.specs.Prelude.{◌≡◌, ◌≢◌, ◌≤◌, ◌+◌, ◌++◌, List, OnOk, IfOk, if◌then◌else◌};
 ghost use Rattle.std.specs.List.{flat_map};
-ghost use Rattle.sp_base.specs.declared.names.ReqNo.{ReqNo};
 ghost use Rattle.sp_frames.specs.declared.frame.Frame.{Frame};
 ghost use Rattle.sp_frames.specs.Grammar.{spelling};
-ghost use Rattle.sp_server.specs.Serving.{is_done, worked, performs, AreOpen, AreRounds, HandsOut, HandsOutOne};
+ghost use Rattle.sp_server.specs.Serving.{is_done, HandsOut, HandsOutOne};
+ghost use Rattle.sp_server.specs.Session.{Proceeds, IsRound, AreAllRounds};
+ghost use Rattle.sp_server.specs.Waiting.{waiting};
 
 use sp_base::{ConnNo, NoMemory, Octets, ReqNo};
 use sp_frames::encode;
@@ -15,16 +16,20 @@ use std::alloc::Global;
 fn was_performed(reply: Reply) -> Result<bool, NoMemory>
     ensures { IfOk result (λ done. (reply ≢ Reply.NoMemory) × (done ≡ is_done reply)) }
 {
-    Ok(matches!(reply.or_no_memory()?, Reply::Done))
+    match reply {
+        Reply::NoMemory => Err(NoMemory),
+        Reply::Done => Ok(true),
+        _ => Ok(false),
+    }
 }
 
-/// Works every open call of a connection once, in rising number, and answers whether one was performed.
+/// Works every call of a connection that waits once, in rising number, and answers whether one was performed.
 ///
-/// Want of memory leaves the calls that weren't performed open.
+/// Want of memory for an ask leaves the calls that weren't performed open.
 fn work_round(hub: &mut Hub, no: ConnNo) -> Result<bool, NoMemory>
-    ensures { IfOk result (λ again. (numbers : List ReqNo)
-        × AreOpen hub.old no (record { 0 = 0 }) numbers × (hub.new ≡ worked hub.old no numbers)
-        × (again ≡ performs hub.old no numbers)) }
+    ensures round { IfOk result (λ again. Proceeds no (IsRound no again) hub.old hub.new) }
+    ensures fewer { IfOk result (λ again.
+        waiting hub.new no + (if again then 1 else 0) ≤ waiting hub.old no) }
 {
     let mut above = ReqNo(0);
     let mut performed = false;
@@ -38,10 +43,9 @@ fn work_round(hub: &mut Hub, no: ConnNo) -> Result<bool, NoMemory>
 
 /// Works the open calls of a connection, in rounds, until none of them can be performed.
 ///
-/// Want of memory leaves the calls that weren't performed open.
+/// Want of memory for an ask leaves the calls that weren't performed open.
 pub fn work_all(hub: &mut Hub, no: ConnNo) -> Result<(), NoMemory>
-    ensures { OnOk result ((rounds : List (List ReqNo))
-        × AreRounds hub.old no true rounds hub.new) }
+    ensures { OnOk result (Proceeds no (AreAllRounds no) hub.old hub.new) }
 {
     let mut again = true;
     while again {

@@ -6,8 +6,8 @@ ghost use Rattle.sp_frames.specs.declared.frame.Frame.{Frame};
 ghost use Rattle.sp_frames.specs.Banner.{banner};
 ghost use Rattle.sp_frames.specs.Grammar.{spelling};
 ghost use Rattle.sp_server.specs.Serving.{HandsOut};
-ghost use Rattle.sp_server.specs.Stdio.{connection, most_input, AnswersFrame, IsAnswered, EndsAs, IsStdioOut, is_read, is_decided};
-ghost use Rattle.sp_server.specs.Session.{HasStopCause, IsBehind, IsAt, IsMet, IsQueueFront, IsAnswerFront, IsPartBehind, IsServedBehind};
+ghost use Rattle.sp_server.specs.Stdio.{connection, most_input, EndsAs, is_read, is_decided};
+ghost use Rattle.sp_server.specs.Session.{HasStopCause, AnswersOne, IsBehind, IsAnsweredSoFar, IsAt, IsMet, IsQueueFront, IsAnswerFront, IsPartBehind, IsOutBehind, IsServedBehind};
 
 use crate::serving::{hand_out, work_all};
 use crate::stdio::StdioEnd;
@@ -56,8 +56,10 @@ impl From<Failed> for Stop {
 fn happened(reply: Reply) -> Result<(), NoMemory>
     ensures { OnOk result (reply ≢ Reply.NoMemory) }
 {
-    reply.or_no_memory()?;
-    Ok(())
+    match reply {
+        Reply::NoMemory => Err(NoMemory),
+        _ => Ok(()),
+    }
 }
 
 /// The fault that a framer met; the error is want of memory.
@@ -90,7 +92,7 @@ fn put_queued<O: Sink>(alloc: Global, hub: &mut Hub, sink: &mut O) -> Result<(),
 /// A frame comes: it happens to the server, its open calls are worked, and what is queued then is written.
 fn answer<O: Sink>(alloc: Global, hub: &mut Hub, frame: Frame, sink: &mut O) -> Result<(), Stop>
     requires { O.is_done sink.old ≡ false }
-    ensures ok { OnOk result ((text : List ℕ) × AnswersFrame hub.old frame 0 text hub.new
+    ensures ok { OnOk result ((text : List ℕ) × AnswersOne hub.old frame text hub.new
         × Appends (O.held sink.old) (O.held sink.new) text) }
     ensures err { OnErr result ((text : List ℕ) × Appends (O.held sink.old) (O.held sink.new) text
         × IsAnswerFront hub.old frame text) }
@@ -112,7 +114,7 @@ fn answer_ready<O: Sink>(
     requires { O.is_done sink.old ≡ false }
     ensures ok { OnOk result ((input before : List ℕ) → IsBehind framer.old hub.old input before
         → (text : List ℕ) × Appends (O.held sink.old) (O.held sink.new) text
-        × IsAnswered input [] (before ++ text) framer.new.rest hub.new) }
+        × IsAnsweredSoFar input (before ++ text) framer.new.rest hub.new) }
     ensures err { OnErr result ((input before : List ℕ) → IsBehind framer.old hub.old input before
         → IsPartBehind input before (O.held sink.old) (O.held sink.new)) }
     ensures ready { OnOk result (framer.new.ready ≡ []) }
@@ -170,18 +172,17 @@ impl Session {
     fn close<O: Sink>(&mut self, how: Finish, sink: &mut O) -> Result<(), Stop>
         requires { O.is_done sink.old ≡ false }
         ensures ok { OnOk result ((input before rest : List ℕ) (offset : ℕ)
-            → IsAnswered input [] before rest self.old.hub → EndsAs how rest
+            → IsAnsweredSoFar input before rest self.old.hub → EndsAs how rest
             → offset + length rest ≡ length input
-            → (text : List ℕ) × Appends (O.held sink.old) (O.held sink.new) text
-            × IsStdioOut input [] how offset (before ++ text)) }
+            → IsOutBehind input how offset before (O.held sink.old) (O.held sink.new)) }
         ensures err { OnErr result ((input before rest : List ℕ) (offset : ℕ)
-            → IsAnswered input [] before rest self.old.hub → EndsAs how rest
+            → IsAnsweredSoFar input before rest self.old.hub → EndsAs how rest
             → offset + length rest ≡ length input
             → IsPartBehind input before (O.held sink.old) (O.held sink.new)) }
         ensures cause { HasStopCause (O.faults sink.old) (O.faults sink.new) result }
         ensures open { O.is_done sink.new ≡ false }
     {
-        happened(self.hub.ended(CONNECTION, how))?;
+        let _ = self.hub.ended(CONNECTION, how);
         put_queued(self.alloc, &mut self.hub, sink)
     }
 
@@ -192,8 +193,8 @@ impl Session {
             × IsAt self.old (Some fault) input before }
         ensures ok { IfOk result (λ offset. (input before : List ℕ)
             → IsAt self.old (Some fault) input before
-            → (text : List ℕ) × Appends (O.held sink.old) (O.held sink.new) text
-            × IsStdioOut input [] (Finish.Bad fault) offset (before ++ text)) }
+            → IsOutBehind input (Finish.Bad fault) offset before (O.held sink.old)
+            (O.held sink.new)) }
         ensures err { OnErr result ((input before : List ℕ)
             → IsAt self.old (Some fault) input before
             → IsPartBehind input before (O.held sink.old) (O.held sink.new)) }

@@ -1,15 +1,15 @@
 use Rattle.std.proofs.Common.{sym, subst}
 use Rattle.std.specs.List.{AllByRecursion}
 use Rattle.guest_script.specs.Script.{IsAskable}
-use Rattle.rump_sp.proofs.RunLaws.{taken_at, none_called, ready_for, one_more, all_called}
+use Rattle.rump_sp.proofs.RunLaws.{said_at, none_called, ready_for, one_more, all_called}
 use Rattle.rump_sp.proofs.run.call_all.Goals as goal
 
 pub loop-i-init : goal.loop-i-init
 loop-i-init c = λ pid at. none_called _ _ _ c.slice-lines.result.now _ at c.none-rows.ensures
 
-pub call-requires-clause-taken : goal.call-requires-clause-taken
-call-requires-clause-taken c =
-    taken_at c.slice-lines.result.now c.loop-i.i c.index-lines-i.result (subst (AllByRecursion IsAskable) (sym c.slice-lines.ensures) c.requires.askable) c.loop-i-test.true c.index-lines-i.is
+pub call-requires-clause-line : goal.call-requires-clause-line
+call-requires-clause-line c =
+    said_at c.slice-lines.result.now c.loop-i.i c.index-lines-i.result (subst (AllByRecursion IsAskable) (sym c.slice-lines.ensures) c.requires.askable) c.loop-i-test.true c.index-lines-i.is
 
 pub call-requires-clause-ready : goal.call-requires-clause-ready
 call-requires-clause-ready c =

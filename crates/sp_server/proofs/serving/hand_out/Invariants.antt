@@ -8,4 +8,4 @@ abbrev pub invariant-loop-more : goal.invariant-loop-more
 invariant-loop-more l = HandsOutSoFar l.fn.hub l.no l.fn.text l.hub l.text l.more
 
 abbrev pub decreases-loop-more : goal.decreases-loop-more
-decreases-loop-more l = queued l.hub + (if l.more then 1 else 0)
+decreases-loop-more l = queued l.hub l.no + (if l.more then 1 else 0)

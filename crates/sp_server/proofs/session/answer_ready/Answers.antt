@@ -1,9 +1,19 @@
-use Rattle.std.proofs.Common.{[], ◌++◌, ◌∙◌, sym, subst, append_assoc, arith}
-use Rattle.sp_server.specs.Stdio.{IsAnswered}
-use Rattle.sp_server.specs.Session.{IsBehind, IsPart}
+use Rattle.std.proofs.Common.{◌++◌, refl, ◌∙◌, sym, subst, append_assoc, arith}
+use Rattle.sp_server.specs.Session.{IsBehind, IsAnsweredSoFar, IsPart}
 use Rattle.sp_io.proofs.Known.{appends_then}
-use Rattle.sp_server.proofs.SessionLaws.{one_behind, all_behind, part_answer, always_err}
+use Rattle.sp_server.proofs.SessionLaws.{none_behind, one_behind, all_behind, part_answer, always_err}
 use Rattle.sp_server.proofs.session.answer_ready.Goals as goal
+
+pub loop-frame-init : goal.loop-frame-init
+loop-frame-init g c =
+    let held = g.O.Sink.held in
+    record {
+      so = λ input before is. none_behind c.args.framer.now c.args.hub.now (held c.args.sink.now) input before is;
+      rest = refl;
+      stop = refl;
+      later = omega arith;
+      «open» = c.requires;
+    }
 
 pub loop-frame-preserved : goal.loop-frame-preserved
 loop-frame-preserved g c =
@@ -42,6 +52,6 @@ returns-clause-ok g c = λ input before behind.
     let t = c.loop-frame.invariant.so input before behind in (
       t.0,
       t.1,
-      subst (λ rest. IsAnswered input [] (before ++ t.0) rest c.loop-frame.hub) (sym c.in_default.ensures.rest)
+      subst (λ rest. IsAnsweredSoFar input (before ++ t.0) rest c.loop-frame.hub) (sym c.in_default.ensures.rest)
           (all_behind c.loop-frame.framer c.loop-frame.hub input (before ++ t.0) c.in_default.ensures.next t.2),
     )

@@ -1,5 +1,8 @@
-use Rattle.sp_hub.proofs.Replies.{plays_fit, frame_is_fair}
+use Rattle.sp_hub.proofs.Replies.{frame_out}
 use Rattle.sp_hub.proofs.hub.Hub.play.Goals as goal
 
 pub returns-in-Frame-clause-fits : goal.returns-in-Frame-clause-fits
-returns-in-Frame-clause-fits c = plays_fit _ _ c.args.self.now c.frame.result _ (frame_is_fair c.args.self.now c.in-Frame.no c.in-Frame.frame c.in-Frame.salt) c.frame.ensures.plays
+returns-in-Frame-clause-fits c frame out = absurd (frame_out _ _ _ _ frame _ _ c.frame.ensures.plays out)
+
+pub returns-in-Work-clause-plays : goal.returns-in-Work-clause-plays
+returns-in-Work-clause-plays c = rw c.in-Work.is c.work.ensures.plays

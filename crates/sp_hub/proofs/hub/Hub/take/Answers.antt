@@ -1,14 +1,7 @@
-use Rattle.std.proofs.Common.{inl}
-use Rattle.sp_hub.specs.Machine.{Machine, running, takes_none}
-use Rattle.sp_hub.proofs.Replies.{plays_fit, plays_free, take_is_fair}
+use Rattle.std.proofs.Common.{inl, true}
+use Rattle.hub_model.proofs.Sound.{plays_sound}
+use Rattle.hub_model.specs.declared.event.Event.TheVariants as event
 use Rattle.sp_hub.proofs.hub.Hub.take.Goals as goal
 
-pub returns-clause-fits : goal.returns-clause-fits
-returns-clause-fits c =
-    let m : Machine = running c.self.inside.kernel.items c.self.inside.connections.items in
-    plays_fit takes_none _ m c.take_in.result _ (take_is_fair m c.args.no c.self.invariant) (inl (c.take_in.ensures.plays c.self.inside.kernel.items))
-
-pub returns-clause-memory : goal.returns-clause-memory
-returns-clause-memory c =
-    let m : Machine = running c.self.inside.kernel.items c.self.inside.connections.items in
-    plays_free _ c.take_in.result _ (take_is_fair m c.args.no c.self.invariant) (c.take_in.ensures.plays c.self.inside.kernel.items)
+pub invariant_of-self : goal.invariant_of-self
+invariant_of-self c = plays_sound c.self.inside.core c.take.new.self (event.Take c.args.no) c.take.result c.self.invariant (inl (true, c.take.ensures.plays))

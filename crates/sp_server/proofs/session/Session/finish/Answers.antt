@@ -11,7 +11,7 @@ pub returns-in_ok-close-clause-ok : goal.returns-in_ok-close-clause-ok
 returns-in_ok-close-clause-ok g c = λ input before is.
     let rest = c.args.self.now.framer.rest in
     let out = c.in_ok-close.ensures.ok input before rest c.offset-offset.result is.answered (is_inside c.inside.result rest c.inside.ensures c.if-inside.true, is.met) (c.offset-offset.ensures ∙ is.fed) in
-    (out.0, out.1, (is.within, out.2))
+    (out.0, out.1, out.2, (is.within, out.3))
 
 pub returns-in_err-close-2-clause-err : goal.returns-in_err-close-2-clause-err
 returns-in_err-close-2-clause-err g c = always_err c.from_residual-in_err-close-2.result (λ input before is.
@@ -24,4 +24,4 @@ returns-in_ok-close-2-clause-ok g c = λ input before is.
     let rest = c.args.self.now.framer.rest in
     let none = is_between c.inside.result rest c.inside.ensures c.if-inside.false in
     let out = c.in_ok-close-2.ensures.ok input before rest (length input) is.answered none (none_left input rest none) in
-    (out.0, out.1, (is.within, out.2))
+    (out.0, out.1, out.2, (is.within, out.3))

@@ -39,7 +39,7 @@ returns-in_ok-offset-in-Some-clause-ends g c = λ input before is.
     let at = subst (λ fault. IsAt c.feed.new.self fault (input ++ front) (before ++ t.0)) c.in-Some.is t.2 in
     let first = subst (λ front. take most_input (input ++ piece) ≡ input ++ front) (sym c.split_at.ensures.front) (take_most input piece c.min-room.result is.within (c.min-room.ensures ∙ ap (λ n. min (most_input - n) (length piece)) is.fed)) in
     let out = c.in_ok-offset-in-Some.ensures.ok (input ++ front) (before ++ t.0) at in
-    broken_serves c.in_ok-offset-in-Some.offset c.in-Some.fault (input ++ piece) (input ++ front) before t.0 out.0 (held c.args.sink.now) (held c.feed.new.sink) (held c.break_off.new.sink) first t.1 out.1 out.2
+    broken_serves c.in_ok-offset-in-Some.offset c.in-Some.fault (input ++ piece) (input ++ front) before t.0 (held c.args.sink.now) (held c.feed.new.sink) (held c.break_off.new.sink) first t.1 out
 
 pub returns-in-None-clause-goes_on : goal.returns-in-None-clause-goes_on
 returns-in-None-clause-goes_on g c = λ input before is.
@@ -61,4 +61,5 @@ returns-in-None-2-clause-ends g c = λ input before is.
     let within : room < length piece = omega arith in
     let at = subst (λ fault. IsAt c.feed.new.self fault (input ++ front) (before ++ t.0)) c.in-None-2.is t.2 in
     let first = subst (λ front. take most_input (input ++ piece) ≡ input ++ front) (sym c.split_at.ensures.front) (take_most input piece room is.within (c.min-room.ensures ∙ ap (λ n. min (most_input - n) (length piece)) is.fed)) in
-    (t.0, t.1, much_serves c.feed.new.self (input ++ piece) (input ++ front) before t.0 first (too_much input piece room (c.min-room.ensures ∙ ap (λ n. min (most_input - n) (length piece)) is.fed) within) at)
+    let much = much_serves c.feed.new.self (input ++ piece) (input ++ front) before t.0 first (too_much input piece room (c.min-room.ensures ∙ ap (λ n. min (most_input - n) (length piece)) is.fed) within) at in
+    (t.0, t.1, much.0, much.1)
