@@ -11,8 +11,11 @@ use crate::telling::Telling;
 use hub_model::OpenCall;
 use kern_calls::{Acted, Kernel};
 use kern_model::{Ins, Op, Who};
-use sp_base::{ConnNo, KeptQueue, NoMemory, Pid, Place, Ranges, ReqNo};
+use sp_base::{ConnNo, FIRST_PROCESS, KeptQueue, NoMemory, PROCESSES, Pid, Place, Ranges, ReqNo};
 use sp_frames::Frame;
+
+/// Room for the exit of each process that there can be. Keeping it costs nothing while it is there.
+const EXITS: u32 = (FIRST_PROCESS + PROCESSES) as u32;
 
 /// A call that has all that it reads, for the process of its connection.
 #[derive(Drop)]
@@ -89,7 +92,7 @@ impl Gathered {
         ensures err { OnErr result (kernel.new.items ≡ kernel.old.items) }
         ensures room { HasExitRoom kernel.new }
     {
-        kernel.reserve(kernel.processes() + 1)?;
+        kernel.reserve(EXITS + 1)?;
         let who = Who::Request(self.no, self.number);
         match kernel.act(self.pid, who, self.op, self.ins) {
             Acted::Done(place) => Ok(place),

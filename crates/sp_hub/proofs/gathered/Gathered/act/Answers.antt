@@ -6,9 +6,6 @@ use Rattle.sp_hub.proofs.Exits.{few_processes}
 use Rattle.sp_hub.proofs.Works.{appends, call_room}
 use Rattle.sp_hub.proofs.gathered.Gathered.act.Goals as goal
 
-pub overflow_add-processes : goal.overflow_add-processes
-overflow_add-processes c = let few = few_processes c.args.kernel.now.items in let is = c.processes.ensures in omega arith
-
 pub returns-in-Done-clause-ok : goal.returns-in-Done-clause-ok
 returns-in-Done-clause-ok c =
     let kept = c.in_ok-reserve.ensures.ok in
@@ -18,7 +15,7 @@ returns-in-Done-clause-ok c =
 pub returns-in-Done-clause-room : goal.returns-in-Done-clause-room
 returns-in-Done-clause-room c =
     let kept = c.in_ok-reserve.ensures.ok in
-    let is = c.processes.ensures in
+    let few = few_processes c.args.kernel.now.items in
     let does = c.act.ensures.done c.in-Done.place c.in-Done.is in
     let fits : FitsEnd c.reserve.new.self.items c.args.self = rw kept c.requires.fits in
     let room : count_by is_some (state_after c.reserve.new.self.items).processes + 1 ≤ c.reserve.new.self.spare = rw kept (omega arith) in
