@@ -1,4 +1,4 @@
-ghost use Rattle.std.specs.Prelude.{◌≡◌, ◌∷◌, ◌++◌, [], Some, None, IfOk, IfSome, OnOk, OnErr, IsTrue, IsSome, MatchOption, is_some, false, length, slice_get};
+ghost use Rattle.std.specs.Prelude.{◌≡◌, ◌↔◌, ◌∷◌, ◌++◌, [], Some, None, IfOk, IfSome, OnOk, OnErr, IsTrue, IsSome, MatchOption, is_some, false, length, slice_get};
 ghost use Rattle.std.specs.Option.{option_copied};
 ghost use Rattle.std.specs.FinMap as map;
 ghost use Rattle.kern_model.specs.Journal.{next_entry};
@@ -101,6 +101,13 @@ impl Connection {
         ensures { result ≡ speaks self.now.condition }
     {
         !matches!(self.condition, Condition::Draining)
+    }
+
+    /// Whether no frame is queued.
+    pub(crate) fn is_quiet(&self) -> bool
+        ensures { IsTrue result ↔ (self.now.queue ≡ []) }
+    {
+        self.queue.is_empty()
     }
 
     /// The highest number of a request that was taken, 0 before the first one.

@@ -149,22 +149,23 @@ impl Core {
         ensures fits { (frame : frame.Frame) → result ≡ reply.Out frame → Fits frame }
         ensures memory { result ≢ reply.NoMemory }
     {
-        let Some(condition) = self.condition(no) else {
+        let Some(connection) = self.connections.get(no.0 as u64) else {
             return Reply::Closed;
         };
+        if connection.is_quiet() {
+            return if connection.speaks() {
+                Reply::Nothing
+            } else {
+                Reply::Closed
+            };
+        }
         let mut connection = Connection::blank(self.alloc);
         self.connections.swap(no.0 as u64, &mut connection);
         let head = connection.take();
         self.connections.swap(no.0 as u64, &mut connection);
         match head {
             Some(frame) => Reply::Out(frame),
-            None => {
-                if condition == Condition::Draining {
-                    Reply::Closed
-                } else {
-                    Reply::Nothing
-                }
-            }
+            None => unreachable!(),
         }
     }
 
