@@ -233,7 +233,7 @@ worked_is false m m' r pid n call line at said = inr (ap (λ (p : Played). p.0) 
 -- ---- the end
 
 -- the connection ends, and the process exits
-pub ended_is : (memory : Bool) (m m' : Machine) (r : Reply) (pid : Pid) (last : ℕ) → IsResting m pid last → (r, m') ≡ played memory m (event.Ended guest_connection Clean) → (r ≡ reply.Nothing) × HasEnded m pid m'
-ended_is memory m m' r pid last at said =
-    let e = said ∙ runs memory m (event.Ended guest_connection Clean) at.running ∙ ap (end_at m guest_connection Clean) at.connection in
-    (ap (λ (p : Played). p.0) e, (success 0, ap (λ (p : Played). p.1.journal) e))
+pub ended_is : (m m' : Machine) (r : Reply) (pid : Pid) (last : ℕ) → IsResting m pid last → (r, m') ≡ played true m (event.Ended guest_connection Clean) → HasEnded m pid m'
+ended_is m m' r pid last at said =
+    let e = said ∙ runs true m (event.Ended guest_connection Clean) at.running ∙ ap (end_at m guest_connection Clean) at.connection in
+    (success 0, ap (λ (p : Played). p.1.journal) e)

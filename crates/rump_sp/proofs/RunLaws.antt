@@ -113,10 +113,6 @@ all_called m m1 pid guest lines lines' rows i le same so = let whole : take i li
 pub attached_len : (pid : Pid) (m : Machine) → IsAttached pid m → length m.journal ≡ 1
 attached_len pid m a = ap (λ (j : List Entry). length j) a.journal
 
--- the calls leave the machine at rest
-pub rested : (m m1 : Machine) (pid : Pid) (guest : List ℕ) (lines : List Line) (rows : List ℕ) → AreCalled m pid guest lines rows m1 → (number : ℕ) × IsReady m1 number
-rested m m1 pid guest lines rows so = (length lines + 2, record { pid = pid; last = length lines + 1; below = omega arith; at = so.at })
-
 -- the whole run
 pub run_is : (m m1 m2 : Machine) (pid : Pid) (section : Section) (rows : List ℕ) → IsLegal m2.journal → HasOwnKeys m2.journal → IsAttached pid m → AreCalled m pid section.name section.lines rows m1 → HasEnded m1 pid m2 → ShowsRun section rows
 run_is m m1 m2 pid section rows legal keys a so ended =

@@ -40,7 +40,7 @@ pub fn run(alloc: Global, section: &Section) -> Result<Octets, NoMemory>
     let name = Octets::of(alloc, section.name.slice())?;
     runner.attach(name)?;
     let rows = call_all(alloc, &mut runner, section)?;
-    runner.end()?;
+    runner.end();
     let _journal = runner.hub.journal();
     Ok(rows)
 }

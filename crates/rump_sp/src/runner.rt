@@ -104,6 +104,7 @@ impl Runner {
     }
 
     /// Performs a line's call of the guest as the request of that number.
+    /// The only error is want of memory; a call that the server refused for memory is one too.
     pub fn call(&mut self, number: u64, call: &Call) -> Result<Answer, NoMemory>
         requires line { IsLineCall call.now }
         requires ready { IsReady self.old.hub number }
@@ -130,14 +131,10 @@ impl Runner {
     }
 
     /// Ends the guest's connection, and with it its process.
-    pub fn end(&mut self) -> Result<(), NoMemory>
-        requires { (number : ℕ) × IsReady self.old.hub number }
-        ensures { OnOk result ((pid : Pid) (last : ℕ) → IsResting self.old.hub pid last
-            → HasEnded self.old.hub pid self.new.hub) }
+    pub fn end(&mut self)
+        ensures { (pid : Pid) (last : ℕ) → IsResting self.old.hub pid last
+            → HasEnded self.old.hub pid self.new.hub }
     {
-        let Reply::Nothing = play(&mut self.hub, Event::Ended(GUEST, Finish::Clean))? else {
-            unreachable!();
-        };
-        Ok(())
+        let _ = self.hub.ended(GUEST, Finish::Clean);
     }
 }
