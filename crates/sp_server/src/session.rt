@@ -16,6 +16,7 @@ use sp_frames::{BANNER, Frame, FrameFault, Framer};
 use sp_hub::{Finish, Hub, Reply};
 use sp_io::{Failed, Sink, put_all};
 use std::alloc::Global;
+use std::mem;
 
 /// The number of the one connection.
 const CONNECTION: ConnNo = ConnNo(0);
@@ -73,8 +74,13 @@ fn met_fault(fed: Result<(), FrameFault>) -> Result<Option<FrameFault>, NoMemory
     }
 }
 
-/// Takes all that is queued for the connection, and writes it.
-fn put_queued<O: Sink>(alloc: Global, hub: &mut Hub, sink: &mut O) -> Result<(), Stop>
+/// Takes all that is queued for the connection, and writes it; the room is for the text, and what it holds is lost.
+fn put_queued<O: Sink>(
+    alloc: Global,
+    hub: &mut Hub,
+    room: &mut Vec<u8>,
+    sink: &mut O,
+) -> Result<(), Stop>
     requires { O.is_done sink.old ≡ false }
     ensures ok { OnOk result ((frames : List Frame) × HandsOut hub.old connection frames hub.new
         × Appends (O.held sink.old) (O.held sink.new) (flat_map spelling frames)) }
@@ -83,14 +89,23 @@ fn put_queued<O: Sink>(alloc: Global, hub: &mut Hub, sink: &mut O) -> Result<(),
     ensures cause { HasStopCause (O.faults sink.old) (O.faults sink.new) result }
     ensures open { O.is_done sink.new ≡ false }
 {
-    let mut text = Octets::none(alloc);
+    let mut empty = mem::replace(room, Vec::new(alloc));
+    empty.clear();
+    let mut text = Octets::from_vec(empty);
     hand_out(alloc, hub, CONNECTION, &mut text)?;
     put_all(sink, text.slice())?;
+    *room = text.into_vec();
     Ok(())
 }
 
 /// A frame comes: it happens to the server, its open calls are worked, and what is queued then is written.
-fn answer<O: Sink>(alloc: Global, hub: &mut Hub, frame: Frame, sink: &mut O) -> Result<(), Stop>
+fn answer<O: Sink>(
+    alloc: Global,
+    hub: &mut Hub,
+    frame: Frame,
+    room: &mut Vec<u8>,
+    sink: &mut O,
+) -> Result<(), Stop>
     requires { O.is_done sink.old ≡ false }
     ensures ok { OnOk result ((text : List ℕ) × AnswersOne hub.old frame text hub.new
         × Appends (O.held sink.old) (O.held sink.new) text) }
@@ -101,7 +116,7 @@ fn answer<O: Sink>(alloc: Global, hub: &mut Hub, frame: Frame, sink: &mut O) -> 
 {
     happened(hub.frame(CONNECTION, frame, 0))?;
     work_all(hub, CONNECTION)?;
-    put_queued(alloc, hub, sink)
+    put_queued(alloc, hub, room, sink)
 }
 
 /// Answers all frames that are ready.
@@ -109,6 +124,7 @@ fn answer_ready<O: Sink>(
     alloc: Global,
     hub: &mut Hub,
     framer: &mut Framer,
+    room: &mut Vec<u8>,
     sink: &mut O,
 ) -> Result<(), Stop>
     requires { O.is_done sink.old ≡ false }
@@ -124,7 +140,7 @@ fn answer_ready<O: Sink>(
     ensures open { O.is_done sink.new ≡ false }
 {
     while let Some(frame) = framer.next() {
-        answer(alloc, hub, frame, sink)?;
+        answer(alloc, hub, frame, room, sink)?;
     }
     Ok(())
 }
@@ -135,6 +151,7 @@ pub struct Session {
     alloc: Global,
     hub: Hub,
     framer: Framer,
+    room: Vec<u8>,
     fed: u64,
 }
 
@@ -156,6 +173,7 @@ impl Session {
             alloc,
             hub,
             framer,
+            room: Vec::new(alloc),
             fed: 0,
         })
     }
@@ -183,7 +201,7 @@ impl Session {
         ensures open { O.is_done sink.new ≡ false }
     {
         let _ = self.hub.ended(CONNECTION, how);
-        put_queued(self.alloc, &mut self.hub, sink)
+        put_queued(self.alloc, &mut self.hub, &mut self.room, sink)
     }
 
     /// The input is no frame from here on; gives the offset of the first byte that is none.
@@ -220,7 +238,13 @@ impl Session {
     {
         let fault = met_fault(self.framer.feed(bytes))?;
         self.fed += bytes.len() as u64;
-        answer_ready(self.alloc, &mut self.hub, &mut self.framer, sink)?;
+        answer_ready(
+            self.alloc,
+            &mut self.hub,
+            &mut self.framer,
+            &mut self.room,
+            sink,
+        )?;
         Ok(fault)
     }
 

@@ -17,7 +17,7 @@ returns-in_err-happened-clause-err g c = always_err c.from_residual-in_err-happe
 pub returns-clause-ok : goal.returns-clause-ok
 returns-clause-ok g c =
     let f = c.fresh-framer.ensures in
-    let s : Session = record { alloc = c.args.alloc; hub = c.opened.new.self; framer = c.fresh-framer.result; fed = 0 } in
+    let s : Session = record { alloc = c.args.alloc; hub = c.opened.new.self; framer = c.fresh-framer.result; room = c.new.result; fed = 0 } in
     let same = opened_is c.in_ok-hub.hub c.opened.new.self connection c.opened.result c.opened.ensures.plays c.in_ok-happened.ensures in
     at_begin s f.ready f.rest f.stop f.follows (subst (λ held. IsStop held.stop held.rest) c.framer.view_is c.framer.invariant.stopped) (same ∙ ap (λ m. after m (event.Opened connection)) c.in_ok-hub.ensures) refl
 

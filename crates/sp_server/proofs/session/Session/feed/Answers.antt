@@ -18,5 +18,5 @@ returns-clause-ok g c = λ input before is.
     let a = c.in_ok-answer_ready.ensures in
     let behind = fed_behind c.args.self.now c.feed.new.self c.feed.result c.in_ok-fault.fault input c.args.bytes.now before is c.in_ok-fault.ensures f.ok f.fault f.follows in
     let t = a.ok (input ++ c.args.bytes.now) before behind in
-    let s : Session = record { alloc = c.args.self.now.alloc; hub = c.answer_ready.new.hub; framer = c.answer_ready.new.framer; fed = c.args.self.now.fed + length c.args.bytes.now } in
+    let s : Session = record { alloc = c.args.self.now.alloc; hub = c.answer_ready.new.hub; framer = c.answer_ready.new.framer; room = c.answer_ready.new.room; fed = c.args.self.now.fed + length c.args.bytes.now } in
     (t.0, t.1, fed_more c.args.self.now s c.feed.new.self c.feed.result c.in_ok-fault.fault input c.args.bytes.now before t.0 is c.in_ok-fault.ensures f.ok f.fault a.ready a.rest a.stop refl c.requires.few (λ i. omega (arith, c.type_inv.bytes i)) t.2)
