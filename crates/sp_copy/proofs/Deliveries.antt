@@ -12,7 +12,7 @@ use Rattle.sp_copy.proofs.Places.{all_stay}
 use Rattle.sp_copy.proofs.Changes.{written_changes}
 
 -- what changes less changes no more
-wider : (f g : ℕ → Bool) → ((a : ℕ) → g a ≡ false → f a ≡ false) → (ps qs : List Part) → ChangesOnly f ps qs → ChangesOnly g ps qs
+pub wider : (f g : ℕ → Bool) → ((a : ℕ) → g a ≡ false → f a ≡ false) → (ps qs : List Part) → ChangesOnly f ps qs → ChangesOnly g ps qs
 wider f g w [] [] c = tt
 wider f g w (p ∷ ps) (q ∷ qs) c = (record { base = c.0.base; right = c.0.right; len = c.0.len; bytes = λ k h. c.0.bytes k (w (p.base + k) h) }, wider f g w ps qs c.1)
 wider f g w [] (q ∷ qs) c = absurd c
@@ -27,7 +27,7 @@ one_after f p q r a b = record {
 }
 
 -- one change after another
-after : (f : ℕ → Bool) (ps qs rs : List Part) → ChangesOnly f ps qs → ChangesOnly f qs rs → ChangesOnly f ps rs
+pub after : (f : ℕ → Bool) (ps qs rs : List Part) → ChangesOnly f ps qs → ChangesOnly f qs rs → ChangesOnly f ps rs
 after f [] [] [] c d = tt
 after f (p ∷ ps) (q ∷ qs) (r ∷ rs) c d = (one_after f p q r c.0 d.0, after f ps qs rs c.1 d.1)
 after f [] (q ∷ qs) rs c d = absurd c

@@ -1,0 +1,71 @@
+-- What the client's machine holds.
+use Rattle.std.specs.Prelude.{ℕ, Bool, true, false, List, [], ◌∷◌, Option, None}
+use Rattle.std.specs.Ordering.{nat_cmp}
+use Rattle.std.specs.FinMap.{FinMap, empty, insert}
+use Rattle.sp_copy.specs.declared.delivery.Delivery.{Delivery}
+use Rattle.sp_copy.specs.declared.part.Part.{Part}
+use Rattle.sp_frames.specs.Grammar.{IsName}
+use Rattle.sp_frames.specs.declared.frame.Body.TheVariants as body
+use Rattle.sp_frames.specs.declared.frame.Frame.{Frame}
+use Rattle.sp_frames.specs.declared.version.Version.{Version}
+use Rattle.client_model.specs.declared.event.Hello.{Hello}
+use Rattle.client_model.specs.declared.event.Hello.TheVariants.{Guest}
+use Rattle.client_model.specs.declared.event.Reply.{Reply}
+use Rattle.client_model.specs.declared.request.Ending.{Ending}
+use Rattle.client_model.specs.declared.request.Request.{Request}
+use Rattle.client_model.specs.declared.request.Request.TheVariants.{Attach}
+use Rattle.client_model.specs.declared.request.Response.{Response}
+
+-- a request that isn't collected yet: what was asked; the caller's memory as it is, and whether all of the bytes that came were
+-- written into it; the indexes that the server asked for; and the response, once it came
+pub record Open : Type 0 where
+  pub request : Request
+  pub delivery : Delivery
+  pub asked : List ℕ
+  pub response : Option Response
+
+-- the version that is spoken; whether the handshake was answered with a process; the highest number that was given to a request; the
+-- requests that aren't collected yet, by number; the frames to hand out, the oldest first; and what ended the talk with the server
+pub record Client : Type 0 where
+  pub version : Version
+  pub ready : Bool
+  pub last : ℕ
+  pub requests : FinMap nat_cmp Open
+  pub queue : List Frame
+  pub ending : Option Ending
+
+-- what the machine answers, and the machine after it
+abbrev pub Played : Type 0
+Played = Reply × Client
+
+-- a request that was just sent, with this memory
+abbrev pub fresh_request : Request → List Part → Open
+fresh_request request mem = record {
+  request = request;
+  delivery = record { mem = mem; whole = true };
+  asked = [];
+  response = None;
+}
+
+-- the hello names a guest as a frame can carry it
+abbrev pub HasName : Hello → Type 0
+HasName (Guest name) = IsName name
+
+-- the frame of a handshake
+abbrev pub hello_frame : Hello → Frame
+hello_frame (Guest name) = record { number = record { 0 = 1 }; body = body.Guest name }
+
+-- a client that begins: its handshake, which is request 1, is queued
+abbrev pub fresh_client : Version → Hello → Client
+fresh_client version hello = record {
+  version = version;
+  ready = false;
+  last = 1;
+  requests = insert empty 1 (fresh_request Attach []);
+  queue = hello_frame hello ∷ [];
+  ending = None;
+}
+
+-- the client with another request of a number
+abbrev pub with_request : Client → ℕ → Open → Client
+with_request k n x = record k { requests = insert k.requests n x }

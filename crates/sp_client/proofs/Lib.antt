@@ -1,0 +1,4 @@
+pub mod AskedLaws
+pub mod Fit
+pub mod Values
+pub mod Needs

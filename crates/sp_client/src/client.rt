@@ -1,0 +1,283 @@
+ghost use Rattle.std.specs.Prelude.{◌≡◌, ◌≢◌, Some, None, IfOk, IfErr, OnOk, OnErr, IsSome, false};
+ghost use Rattle.std.specs.FinMap as map;
+ghost use Rattle.std.specs.List.{list_any};
+ghost use Rattle.client_model.specs.Machine.{Plays, played};
+ghost use Rattle.client_model.specs.Requests as requests;
+ghost use Rattle.client_model.specs.Requests.{closed, collected, highest_number, is_busy, over, start_now};
+ghost use Rattle.client_model.specs.Run.{has_response, is_answered, is_still};
+ghost use Rattle.client_model.specs.State as state;
+ghost use Rattle.client_model.specs.State.{HasName, fresh_client, hello_frame};
+ghost use Rattle.client_model.specs.declared.event.Event.TheVariants as event;
+ghost use Rattle.client_model.specs.declared.event.Reply.TheVariants as reply;
+ghost use Rattle.sp_base.specs.declared.names.Caller.{Caller};
+ghost use Rattle.sp_frames.specs.Grammar.{Fits};
+ghost use Rattle.sp_frames.specs.declared.frame.Frame.{Frame};
+ghost use Rattle.sp_frames.specs.declared.version.Version.TheVariants.{Four};
+
+use crate::request::OpenRequest;
+use client_model::{Ending, Event, Hello, OPEN_REQUESTS, Reply, Request, Response};
+use sp_base::{Call, KeptQueue, NoMemory, ReqNo};
+use sp_copy::{Delivery, Mem};
+use sp_frames::{Body, Frame, Version};
+use std::alloc::Global;
+use std::marker::Model;
+use tables::Table;
+
+/// A guest's side of the talk with a server: its requests, the frames that it has to send, and what
+/// came of them.
+#[derive(Drop)]
+pub struct ClientCore {
+    pub(crate) alloc: Global,
+    version: Version,
+    pub(crate) ready: bool,
+    last: u64,
+    pub(crate) requests: Table<OpenRequest>,
+    pub(crate) queue: KeptQueue<Frame>,
+    pub(crate) ending: Option<Ending>,
+}
+
+impl Model for ClientCore {
+    ghost use Rattle.std.specs.List.{AllByRecursion};
+    ghost use Rattle.client_model.specs.Code.{client_code};
+    ghost use Rattle.client_model.specs.State.{Client};
+    ghost use Rattle.sp_frames.specs.Grammar.{Fits};
+
+    ghost Value = { Client };
+
+    ghost coded = { client_code };
+
+    ghost view = { λ k. record {
+      version = k.version;
+      ready = k.ready;
+      last = k.last;
+      requests = k.requests;
+      queue = k.queue.items;
+      ending = k.ending;
+    } };
+
+    ghost invariant = { λ k. AllByRecursion Fits k.queue.items };
+}
+
+/// The frame of a handshake.
+fn hello_frame(hello: Hello) -> Frame
+    ensures { result ≡ hello_frame hello }
+{
+    match hello {
+        Hello::Guest(name) => Frame {
+            number: ReqNo(1),
+            body: Body::Guest { name },
+        },
+    }
+}
+
+/// The frame of a system call.
+#[tactic(auto, using(crate::proofs::Fit::call_fits))]
+fn call_frame(number: u64, call: &Call) -> Frame
+    ensures frame { result ≡ requests.call_frame number call.now }
+    ensures fits { Fits result }
+{
+    let words = call.words();
+    let _words = words.slice();
+    Frame {
+        number: ReqNo(number),
+        body: Body::Sys {
+            num: call.num(),
+            words,
+        },
+    }
+}
+
+/// What a request is answered once the talk with the server is over.
+fn over(ending: Ending, mem: Mem) -> Reply
+    ensures { result ≡ over ending mem }
+{
+    match ending {
+        Ending::Gone => Reply::Lost(mem),
+        Ending::Broken => Reply::Broken(mem),
+    }
+}
+
+/// What is collected of a request with its response, and with what was delivered for it.
+fn collected(response: Response, delivery: Delivery) -> Reply
+    ensures { result ≡ collected response delivery }
+{
+    match response {
+        Response::Joined(pid) => Reply::Joined { pid, place: None },
+        Response::Answered(answer) => Reply::Got(delivery.answer(answer), delivery.mem),
+        Response::Refused(why) => Reply::Refused(why, delivery.mem),
+    }
+}
+
+impl ClientCore {
+    /// A client that begins. Its handshake, which is request 1, is queued. The only error is want
+    /// of memory.
+    #[tactic(auto, using(crate::proofs::Fit::hello_fits))]
+    pub fn fresh(alloc: Global, hello: Hello) -> Result<ClientCore, NoMemory>
+        requires { HasName hello }
+        ensures { IfOk result (λ core. core ≡ fresh_client Four hello) }
+    {
+        let mut queue = KeptQueue::none(alloc);
+        queue.keep(1)?;
+        queue.put_kept(hello_frame(hello));
+        let mut requests = Table::new(alloc);
+        requests.insert(1, OpenRequest::sent(Request::Attach, Mem::none(alloc)))?;
+        Ok(ClientCore {
+            alloc,
+            version: Version::Four,
+            ready: false,
+            last: 1,
+            requests,
+            queue,
+            ending: None,
+        })
+    }
+
+    /// Whether no frame is queued and no open request has its answer; takes no memory.
+    pub fn is_still(&self) -> bool
+        ensures { result ≡ is_still self.now }
+    {
+        self.queue.is_empty() && !self.has_answer()
+    }
+
+    /// Whether some open request has its answer.
+    fn has_answer(&self) -> bool
+        ensures { result ≡ list_any has_response (map.values self.now.requests) }
+    {
+        self.requests.values().any(|request| request.has_response())
+    }
+
+    /// Whether the request of a number is open and has its answer; takes no memory.
+    pub fn is_answered(&self, number: ReqNo) -> bool
+        ensures { result ≡ is_answered self.now number }
+    {
+        match self.requests.get(number.0) {
+            Some(request) => request.has_response(),
+            None => false,
+        }
+    }
+
+    /// Whether a call that starts now would be answered Busy, unless the talk with the server is
+    /// over or its handshake isn't answered; takes no memory.
+    pub fn is_busy(&self) -> bool
+        ensures { result ≡ is_busy self.now }
+    {
+        self.requests.len() as u64 >= OPEN_REQUESTS || self.last == u64::MAX
+    }
+
+    /// An event happens. Where memory is refused nothing changes, and memory that was lent comes
+    /// back.
+    pub fn play(&mut self, event: Event) -> Reply
+        ensures plays { Plays self.old event result self.new }
+        ensures fits { (frame : Frame) → result ≡ reply.Out frame → Fits frame }
+    {
+        match event {
+            Event::Start(_, call, mem) => self.start(call, mem),
+            Event::Frame(frame) => self.frame(frame),
+            Event::Collect(number) => self.collect(number),
+            Event::Take => self.take(),
+            Event::Gone => self.gone(),
+        }
+    }
+
+    /// A caller asks for a system call, and lends its memory for it.
+    ///
+    /// Lost or Broken come once the talk with the server is over, by what ended it first; else
+    /// NotYet before the handshake is answered with a process; else Busy where 64 requests are
+    /// open, or no number is left. Otherwise the call is queued, and Started has its number.
+    pub fn start(&mut self, call: Call, mem: Mem) -> Reply
+        ensures { (caller : Caller) → Plays self.old (event.Start caller call mem) result self.new }
+    {
+        if let Some(ending) = self.ending {
+            return over(ending, mem);
+        }
+        if !self.ready {
+            return Reply::NotYet(mem);
+        }
+        if self.is_busy() {
+            return Reply::Busy(mem);
+        }
+        match self.open(call, mem) {
+            Ok(number) => Reply::Started(number),
+            Err(mem) => Reply::NoMemory(mem),
+        }
+    }
+
+    /// Opens a request under the next number. Where memory is refused nothing changes, and the
+    /// memory that was lent comes back.
+    #[tactic(auto, using(crate::proofs::Fit::queue_fits))]
+    fn open(&mut self, call: Call, mem: Mem) -> Result<ReqNo, Mem>
+        requires { self.old.last ≢ highest_number }
+        ensures ok { OnOk result (self.new ≡ (start_now self.old call mem).1) }
+        ensures number { IfOk result (λ number.
+            reply.Started number ≡ (start_now self.old call mem).0) }
+        ensures err { OnErr result (self.new ≡ self.old) }
+        ensures mem { IfErr result (λ back. back ≡ mem) }
+    {
+        let number = self.last + 1;
+        let blank = OpenRequest::sent(Request::Attach, Mem::none(self.alloc));
+        let Ok(()) = self.queue.keep(1) else {
+            return Err(mem);
+        };
+        let Ok(()) = self.requests.insert(number, blank) else {
+            self.queue.free(1);
+            return Err(mem);
+        };
+        self.queue.put_kept(call_frame(number, &call));
+        let mut request = OpenRequest::sent(Request::Call(call), mem);
+        self.requests.swap(number, &mut request);
+        self.last = number;
+        Ok(ReqNo(number))
+    }
+
+    /// A caller asks for the answer to a request, which closes it; takes no memory.
+    ///
+    /// Unknown where no request of the number is open, and NotYet, with no memory, where it is
+    /// unanswered and the talk with the server goes on; then nothing changes.
+    pub fn collect(&mut self, number: ReqNo) -> Reply
+        ensures { (result, self.new) ≡ played self.old (event.Collect number) }
+    {
+        let Some(request) = self.requests.get(number.0) else {
+            return Reply::Unknown;
+        };
+        match (request.response(), self.ending) {
+            (Some(response), _) => collected(response, self.close(number)),
+            (None, Some(ending)) => over(ending, self.close(number).mem),
+            (None, None) => Reply::NotYet(Mem::none(self.alloc)),
+        }
+    }
+
+    /// Closes a request, and gives what was delivered for it; takes no memory.
+    fn close(&mut self, number: ReqNo) -> Delivery
+        requires { IsSome (map.get self.old.requests number.0) }
+        ensures delivery { (x : state.Open) → map.get self.old.requests number.0 ≡ Some x
+            → result ≡ x.delivery }
+        ensures state { self.new ≡ closed self.old number }
+    {
+        match self.requests.remove(number.0) {
+            Some(request) => request.into_delivery(),
+            None => unreachable!(),
+        }
+    }
+
+    /// The link can send a frame: the oldest that is queued, else Nothing; takes no memory.
+    pub fn take(&mut self) -> Reply
+        ensures plays { (result, self.new) ≡ played self.old event.Take }
+        ensures fits { (frame : Frame) → result ≡ reply.Out frame → Fits frame }
+    {
+        match self.queue.take() {
+            Some(frame) => Reply::Out(frame),
+            None => Reply::Nothing,
+        }
+    }
+
+    /// The link is gone: unless the talk with the server was over before, unanswered requests are
+    /// lost from now on; takes no memory.
+    pub fn gone(&mut self) -> Reply
+        ensures { (result, self.new) ≡ played self.old event.Gone }
+    {
+        if self.ending.is_none() {
+            self.ending = Some(Ending::Gone);
+        }
+        Reply::Nothing
+    }
+}

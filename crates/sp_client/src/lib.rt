@@ -1,0 +1,13 @@
+//! The client library's core: a machine that sends the system calls of a guest to a server, and
+//! answers what the server asks meanwhile.
+#![tactic(auto)]
+
+mod client;
+mod copies;
+mod fitness;
+mod request;
+mod serving;
+#[cfg(test)]
+mod tests;
+
+pub use client::ClientCore;
