@@ -1,0 +1,29 @@
+use Rattle.std.proofs.Common.{ap}
+use Rattle.client_model.specs.State.{Played}
+use Rattle.link_model.proofs.Ends.{moves_end, route_ends}
+use Rattle.link_model.proofs.Law.{started, moves_fine, journal_grows, journal_stands, answer_stands, whole_again}
+use Rattle.link_model.proofs.laws.calls_by_frames_are_direct.Goals as goal
+
+pub returns-clause-starts : goal.returns-clause-starts
+returns-clause-starts c = λ asked. ap (λ (p : Played). p.0) (started asked)
+
+pub returns-clause-fine : goal.returns-clause-fine
+returns-clause-fine c = moves_fine
+
+pub returns-clause-grows : goal.returns-clause-grows
+returns-clause-grows c = journal_grows
+
+pub returns-clause-asks : goal.returns-clause-asks
+returns-clause-asks c = journal_stands
+
+pub returns-clause-puts : goal.returns-clause-puts
+returns-clause-puts c = answer_stands
+
+pub returns-clause-ends : goal.returns-clause-ends
+returns-clause-ends c = moves_end
+
+pub returns-clause-whole : goal.returns-clause-whole
+returns-clause-whole c = whole_again
+
+pub returns-clause-arrives : goal.returns-clause-arrives
+returns-clause-arrives c = route_ends

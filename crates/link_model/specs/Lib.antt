@@ -1,0 +1,5 @@
+pub mod Direct
+pub mod Link
+pub mod Asked
+pub mod Greeting
+pub mod Route
