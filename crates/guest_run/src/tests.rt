@@ -15,7 +15,9 @@ const CONNECTION: ConnNo = ConnNo(0);
 
 /// The addresses of a call's first and second part, and one in no part.
 const FIRST: u64 = 0x1000_0000;
+
 const SECOND: u64 = 0x2000_0000;
+
 const NOWHERE: u64 = 16;
 
 /// No frame of the conversation is longer.
