@@ -1,5 +1,6 @@
 // Values that no clause names: bytes and faults as the table of frames has them, and calls with ample memory.
-use crate::header::{Header, put_header};
+use crate::front::Front;
+use crate::header::Header;
 use crate::{FrameFault, Framer, encode};
 use sp_base::Octets;
 use std::alloc::Global;
@@ -290,6 +291,14 @@ fn a_content_is_judged_when_it_is_whole(rt: HostRuntime) -> Result<(), Fail> {
         let len = bytes.len() as u64;
         refuses(&rt, rt.alloc(), &bytes, FrameFault::Payload { kind, len })?;
     }
+    Ok(())
+}
+
+/// Puts a header behind bytes.
+fn put_header(bytes: &mut Octets, header: &Header) -> Result<(), Fail> {
+    let mut front = Front::none();
+    front.put_header(header);
+    bytes.extend(front.slice())?;
     Ok(())
 }
 
