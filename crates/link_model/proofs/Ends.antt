@@ -155,7 +155,7 @@ module _ (a : Asked) (e : Entry) (entry : entry_of a ≡ Some e) where
 
 -- ---- after any moves
 
-carried_on : (link : Link) (moves more : List Move) → carried link (moves ++ more) ≡ carried (carried link moves) more
+pub carried_on : (link : Link) (moves more : List Move) → carried link (moves ++ more) ≡ carried (carried link moves) more
 carried_on link [] more = refl
 carried_on link (move ∷ moves) more = carried_on (made link move).link moves more
 

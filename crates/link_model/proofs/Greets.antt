@@ -172,6 +172,7 @@ greeted_by g (Guest name) is (Some n) low room =
       next = next g.server c n low name;
       grown = refl;
       process = refl;
+      last = refl;
     })
 
 -- a greeting that is carried over makes the link whole

@@ -1,7 +1,9 @@
 -- A call that is asked over a whole link is answered as it would be at once.
-use Rattle.std.proofs.Common.{◌≡◌, ◌⊎◌, inl, inr, ℕ, ◌+◌, Bool, true, false, List, [], ◌∷◌, length, Option, Some, refl, sym, ap, subst, ◌∙◌}
+use Rattle.std.proofs.Common.{◌≡◌, ◌⊎◌, inl, inr, ℕ, ◌+◌, ◌-◌, ◌≤◌, Bool, cond, true, false, List, [], ◌∷◌, length, Option, Some, refl, sym, ap, subst, ◌∙◌, arith}
+use Rattle.std.specs.Cmp.{nat_cmp_total}
 use Rattle.std.specs.Ordering.{nat_cmp}
-use Rattle.std.specs.FinMap.{FinMap, get, insert}
+use Rattle.std.specs.FinMap.{FinMap, contains_key, get, insert, len, len-insert, len-remove, remove}
+use Rattle.std.specs.Prelude.{is_some}
 use Rattle.sp_base.specs.declared.names.Answer.{Answer}
 use Rattle.sp_copy.specs.Delivering.{answer_after}
 use Rattle.sp_copy.specs.declared.delivery.Delivery.{Delivery}
@@ -18,7 +20,7 @@ use Rattle.client_model.specs.Requests.{start_by}
 use Rattle.client_model.specs.State.{Played}
 use Rattle.client_model.specs.declared.event.Reply.TheVariants as reply
 use Rattle.client_model.specs.declared.request.Ending.{Ending}
-use Rattle.link_model.specs.Asked.{Asked, IsPerformed, IsAnswered, IsFine, IsWholeAgain, Grows, number_of, start_of, after, journal_before, entry_of, direct_of, collected, after_collecting, idle}
+use Rattle.link_model.specs.Asked.{Asked, IsPerformed, IsAnswered, IsFine, IsWholeAgain, IsClosed, Grows, number_of, start_of, after, journal_before, entry_of, direct_of, collected, after_collecting, idle}
 use Rattle.link_model.specs.Direct.{reads, seen}
 use Rattle.link_model.specs.Link.{Link, made, carried}
 use Rattle.link_model.specs.declared.moves.Move.{Move}
@@ -156,17 +158,51 @@ told_whole a indexes e now =
 unanswered : (a : Asked) (s : Stage) → collected a (shape a s) ≡ reply.NotYet [] → IsAnswered a (shape a s) → ⊥
 unanswered a s none answered = let k = sym none ∙ answered.got in cc
 
-whole_at_stage : (a : Asked) (s : Stage) → Fact a s → IsAnswered a (shape a s) → IsWholeAgain a (after_collecting a (shape a s))
-whole_at_stage a (Told indexes e now) fact answered = told_whole a indexes e now
-whole_at_stage a Sent fact answered = absurd (unanswered a Sent (none_collected a _ _ _) answered)
-whole_at_stage a (Held got indexes) fact answered = absurd (unanswered a (Held got indexes) (none_collected a _ _ _) answered)
-whole_at_stage a (Asking got indexes need) fact answered = absurd (unanswered a (Asking got indexes need) (none_collected a _ _ _) answered)
-whole_at_stage a (Copying got indexes need) fact answered = absurd (unanswered a (Copying got indexes need) (none_collected a _ _ _) answered)
-whole_at_stage a (Failing indexes why) fact answered = absurd (unanswered a (Failing indexes why) (none_collected a _ _ _) answered)
-whole_at_stage a (Telling indexes e now index todo) fact answered = absurd (unanswered a (Telling indexes e now index todo) (none_collected a _ _ _) answered)
+-- what holds where the call was told holds at every stage at which it is answered
+where_answered : (a : Asked) (P : Stage → Type 0) → ((indexes : List ℕ) (e : Entry) (now : Delivery) → P (Told indexes e now))
+    → (s : Stage) → Fact a s → IsAnswered a (shape a s) → P s
+where_answered a P told (Told indexes e now) fact answered = told indexes e now
+where_answered a P told Sent fact answered = absurd (unanswered a Sent (none_collected a _ _ _) answered)
+where_answered a P told (Held got indexes) fact answered = absurd (unanswered a (Held got indexes) (none_collected a _ _ _) answered)
+where_answered a P told (Asking got indexes need) fact answered = absurd (unanswered a (Asking got indexes need) (none_collected a _ _ _) answered)
+where_answered a P told (Copying got indexes need) fact answered = absurd (unanswered a (Copying got indexes need) (none_collected a _ _ _) answered)
+where_answered a P told (Failing indexes why) fact answered = absurd (unanswered a (Failing indexes why) (none_collected a _ _ _) answered)
+where_answered a P told (Telling indexes e now index todo) fact answered = absurd (unanswered a (Telling indexes e now index todo) (none_collected a _ _ _) answered)
+
+-- the same after any moves
+after_answer : (a : Asked) (P : Link → Type 0) → ((indexes : List ℕ) (e : Entry) (now : Delivery) → P (shape a (Told indexes e now)))
+    → (moves : List Move) → IsAnswered a (after a moves) → P (after a moves)
+after_answer a P told moves =
+    let h = stands a moves in
+    subst (λ (l : Link). IsAnswered a l → P l) (sym h.is) (where_answered a (λ s. P (shape a s)) told h.stage h.fact)
 
 -- once the call is answered and collected, the link is whole again
 pub whole_again : (a : Asked) (moves : List Move) → IsAnswered a (after a moves) → IsWholeAgain a (after_collecting a (after a moves))
-whole_again a moves =
-    let h = stands a moves in
-    subst (λ (l : Link). IsAnswered a l → IsWholeAgain a (after_collecting a l)) (sym h.is) (whole_at_stage a h.stage h.fact)
+whole_again a = after_answer a (λ l. IsWholeAgain a (after_collecting a l)) (told_whole a)
+
+-- one value more and then one less is no value more
+no_more : {X : Type 0} (m : FinMap nat_cmp X) (k : ℕ) (x : X) → len (remove (insert m k x) k) ≤ len m
+no_more m k x =
+    let there : contains_key (insert m k x) k ≡ true = ap is_some (get_put m k x) in
+    subst (λ n. n ≤ len m)
+    (sym (len-remove nat_cmp_total (insert m k x) k ∙ ap (λ b. cond b (len (insert m k x) - 1) (len (insert m k x))) there
+    ∙ ap (λ n. n - 1) (len-insert nat_cmp_total m k x)))
+    (less (contains_key m k) (len m))
+  where
+    less : (b : Bool) (n : ℕ) → cond b n (n + 1) - 1 ≤ n
+    less true n = omega arith
+    less false n = omega arith
+
+-- a call that was told closes its request
+told_closed : (a : Asked) (indexes : List ℕ) (e : Entry) (now : Delivery) → IsClosed a (after_collecting a (shape a (Told indexes e now)))
+told_closed a indexes e now =
+    let link = shape a (Told indexes e now) in
+    let answer = answer_at e.outcome (length (journal_before a)) in
+    subst (λ (p : Played). IsClosed a (record link { client = p.1 })) (sym (answer_plays a now indexes [] answer)) (record {
+      requests = no_more a.link.client.requests (a.link.client.last + 1) _;
+      last = refl;
+    })
+
+-- once the call is answered and collected, its request is closed
+pub closed_after : (a : Asked) (moves : List Move) → IsAnswered a (after a moves) → IsClosed a (after_collecting a (after a moves))
+closed_after a = after_answer a (λ l. IsClosed a (after_collecting a l)) (told_closed a)

@@ -1,6 +1,6 @@
 -- A call that is asked over a whole link, and what becomes of it.
-use Rattle.std.specs.Prelude.{◌≡◌, ℕ, ◌+◌, Bool, true, false, IsTrue, IfSome, List, [], ◌∷◌, ◌++◌, length, Option, None, Some}
-use Rattle.std.specs.FinMap.{get, empty}
+use Rattle.std.specs.Prelude.{◌≡◌, ℕ, ◌+◌, ◌≤◌, Bool, true, false, IsTrue, IfSome, List, [], ◌∷◌, ◌++◌, length, Option, None, Some}
+use Rattle.std.specs.FinMap.{get, empty, len}
 use Rattle.sp_base.specs.Call.{call_number, IsProper}
 use Rattle.sp_base.specs.declared.call.Call.{Call}
 use Rattle.sp_base.specs.declared.names.Answer.{Answer}
@@ -107,6 +107,11 @@ pub record IsAnswered (asked : Asked) (link : Link) : Type 0 where
 -- the link is whole again, for the same process, where its client may start another call
 abbrev pub IsWholeAgain : Asked → Link → Type 0
 IsWholeAgain asked link = is_busy link.client ≡ false → (whole : IsWhole link) × (whole.pid ≡ asked.whole.pid)
+
+-- the request is closed: no more requests are open than before it, and its number is the last one that was given
+pub record IsClosed (asked : Asked) (link : Link) : Type 0 where
+  pub requests : len link.client.requests ≤ len asked.link.client.requests
+  pub last : link.client.last ≡ asked.link.client.last + 1
 
 -- the journal has the call's entry more exactly where the server answers that it is done, and had none before; else it is the same
 abbrev pub Grows : Asked → List Entry → Option ServerReply → List Entry → Type 0

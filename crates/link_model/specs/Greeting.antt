@@ -37,10 +37,11 @@ opened greeting = record {
   conn = greeting.conn;
 }
 
--- the link is whole, for the process that the greeting's one entry made
+-- the link is whole, for the process that the greeting's one entry made, and the client gave the number 1
 pub record IsGreeted (greeting : Greeting) (link : Link) : Type 0 where
   pub whole : IsWhole link
   pub entry : Entry
   pub next : next_entry greeting.server.journal no_process (Request greeting.conn (record { 0 = 1 })) Attach nothing_read ≡ Some entry
   pub grown : link.server.journal ≡ greeting.server.journal ++ entry ∷ []
   pub process : whole.pid.0 ≡ entry.outcome.ret0
+  pub last : link.client.last ≡ 1

@@ -2,7 +2,7 @@
 ghost use Rattle.std.specs.Prelude.{[], ◌++◌, ◌∷◌, ◌≡◌, ◌⊎◌, IsSome, List, Some};
 ghost use Rattle.kern_model.specs.declared.journal.Entry.{Entry};
 ghost use Rattle.client_model.specs.declared.event.Reply.{Reply};
-ghost use Rattle.link_model.specs.Asked.{Asked, Grows, IsAnswered, IsFine, IsPerformed, IsWholeAgain};
+ghost use Rattle.link_model.specs.Asked.{Asked, Grows, IsAnswered, IsClosed, IsFine, IsPerformed, IsWholeAgain};
 ghost use Rattle.link_model.specs.Asked.{after, after_collecting, collected, direct_of, entry_of};
 ghost use Rattle.link_model.specs.Asked.{journal_before, number_of, start_of};
 ghost use Rattle.link_model.specs.Greeting.{Greeting, IsGreeted, opened};
@@ -27,7 +27,7 @@ pub fn greetings_make_links_whole()
 /// answers that the call is done, and else never (`grows`), and neither side refuses what comes to it
 /// (`fine`). Where the kernel is ready for the call, it can be brought to its answer from wherever it
 /// is (`ends`), and has it at the end of its route (`arrives`). Once that is collected, the link is
-/// whole again (`whole`).
+/// whole again (`whole`), and its request is closed (`closed`).
 pub fn calls_by_frames_are_direct()
     ensures starts { (asked : Asked) → (start_of asked).0 ≡ Reply.Started (number_of asked) }
     ensures asks { (asked : Asked) (moves : List Move)
@@ -51,4 +51,7 @@ pub fn calls_by_frames_are_direct()
     ensures whole { (asked : Asked) (moves : List Move)
         → IsAnswered asked (after asked moves)
         → IsWholeAgain asked (after_collecting asked (after asked moves)) }
+    ensures closed { (asked : Asked) (moves : List Move)
+        → IsAnswered asked (after asked moves)
+        → IsClosed asked (after_collecting asked (after asked moves)) }
 {}

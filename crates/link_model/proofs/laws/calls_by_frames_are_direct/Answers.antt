@@ -1,7 +1,7 @@
 use Rattle.std.proofs.Common.{ap}
 use Rattle.client_model.specs.State.{Played}
 use Rattle.link_model.proofs.Ends.{moves_end, route_ends}
-use Rattle.link_model.proofs.Law.{started, moves_fine, journal_grows, journal_stands, answer_stands, whole_again}
+use Rattle.link_model.proofs.Law.{started, moves_fine, journal_grows, journal_stands, answer_stands, whole_again, closed_after}
 use Rattle.link_model.proofs.laws.calls_by_frames_are_direct.Goals as goal
 
 pub returns-clause-starts : goal.returns-clause-starts
@@ -24,6 +24,9 @@ returns-clause-ends c = moves_end
 
 pub returns-clause-whole : goal.returns-clause-whole
 returns-clause-whole c = whole_again
+
+pub returns-clause-closed : goal.returns-clause-closed
+returns-clause-closed c = closed_after
 
 pub returns-clause-arrives : goal.returns-clause-arrives
 returns-clause-arrives c = route_ends
