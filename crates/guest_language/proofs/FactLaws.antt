@@ -1,36 +1,37 @@
 -- Names are distinct, and background lines are calls.
-use Rattle.std.proofs.Common.{◌≡◌, ℕ, zero, suc, ◌-◌, ◌||◌, Bool, true, false, cond, List, [], ◌∷◌, ◌++◌, length, map, set, get_or, refl, ap, sym, ◌∙◌, subst}
-use Rattle.std.specs.List.{AllByRecursion, list_any}
+use Rattle.std.proofs.Common.{◌≡◌, ℕ, zero, suc, ◌-◌, ◌||◌, Bool, true, false, List, [], ◌∷◌, ◌++◌, length, map, set, get_or, refl, ap, sym, subst}
+use Rattle.std.specs.List.{AllByRecursion}
 use Rattle.std.specs.Str.{bytes_eq}
 use Rattle.std.proofs.lemmas.Slice.Eq.{bytes_eq-Decides}
 use Rattle.guest_language.specs.declared.script.Line.{Line}
 use Rattle.guest_language.specs.declared.script.Section.{Section}
-use Rattle.guest_language.specs.Facts.{AreDistinct, HasFineLines, HasOwnNames, IsFine}
+use Rattle.guest_language.specs.Facts.{AreDistinct, HasFineLines, HasOwnNames, HasProperCall, IsFine}
+use Rattle.guest_language.specs.Names.{is_name}
 use Rattle.guest_language.specs.Sections.{add_line, is_taken, no_section, with_line}
 
-push_all : {X : Type 0} (P : X → Type 0) (xs : List X) (x : X) → AllByRecursion P xs → P x → AllByRecursion P (xs ++ x ∷ [])
+pub push_all : {X : Type 0} (P : X → Type 0) (xs : List X) (x : X) → AllByRecursion P xs → P x → AllByRecursion P (xs ++ x ∷ [])
 push_all P [] x all one = (one, tt)
 push_all P (y ∷ ys) x all one = (all.0, push_all P ys x all.1 one)
 
--- the lines of sections with one line more in the section at a place
-line_more : (ss : List Section) (i : ℕ) (line : Line) → IsFine line → HasFineLines ss → HasFineLines (set ss i (with_line (get_or ss i no_section) line))
-line_more [] i line f h = tt
-line_more (s ∷ ss) zero line f h = (push_all IsFine s.lines line h.0 f, h.1)
-line_more (s ∷ ss) (suc i) line f h = (h.0, line_more ss i line f h.1)
+-- what a section keeps with one line more, in the section at a place
+pub section_more : (P : Section → Type 0) (ss : List Section) (i : ℕ) (line : Line) → ((s : Section) → P s → P (with_line s line)) → AllByRecursion P ss → AllByRecursion P (set ss i (with_line (get_or ss i no_section) line))
+section_more P [] i line more h = tt
+section_more P (s ∷ ss) zero line more h = (more s h.0, h.1)
+section_more P (s ∷ ss) (suc i) line more h = (h.0, section_more P ss i line more h.1)
 
-pub fine_push : (ss : List Section) (name : List ℕ) (at : ℕ) → is_taken ss name ≡ false → HasFineLines ss → HasFineLines (ss ++ record { name = name; at = at; lines = [] } ∷ [])
-fine_push ss name at t h = push_all (λ (section : Section). AllByRecursion IsFine section.lines) ss (record { name = name; at = at; lines = [] }) h tt
+pub fine_push : (ss : List Section) (name : List ℕ) (at : ℕ) → is_name name ≡ true → is_taken ss name ≡ false → HasFineLines ss → HasFineLines (ss ++ record { name = name; at = at; lines = [] } ∷ [])
+fine_push ss name at n t h = push_all (λ (section : Section). AllByRecursion IsFine section.lines) ss (record { name = name; at = at; lines = [] }) h tt
 
-pub fine_add : (ss : List Section) (line : Line) → IsFine line → HasFineLines ss → HasFineLines (add_line ss line)
-fine_add ss line f h = line_more ss (length ss - 1) line f h
+pub fine_add : (ss : List Section) (line : Line) → IsFine line → HasProperCall line → HasFineLines ss → HasFineLines (add_line ss line)
+fine_add ss line f p h = section_more (λ (section : Section). AllByRecursion IsFine section.lines) ss (length ss - 1) line (λ s own. push_all IsFine s.lines line own f) h
 
 same_names : (ss : List Section) (i : ℕ) (line : Line) → map (λ (section : Section). section.name) (set ss i (with_line (get_or ss i no_section) line)) ≡ map (λ (section : Section). section.name) ss
 same_names [] i line = refl
 same_names (s ∷ ss) zero line = refl
 same_names (s ∷ ss) (suc i) line = ap (λ (names : List (List ℕ)). s.name ∷ names) (same_names ss i line)
 
-pub own_add : (ss : List Section) (line : Line) → IsFine line → HasOwnNames ss → HasOwnNames (add_line ss line)
-own_add ss line f h = subst AreDistinct (sym (same_names ss (length ss - 1) line)) h
+pub own_add : (ss : List Section) (line : Line) → IsFine line → HasProperCall line → HasOwnNames ss → HasOwnNames (add_line ss line)
+own_add ss line f p h = subst AreDistinct (sym (same_names ss (length ss - 1) line)) h
 
 distinct_push : (names : List (List ℕ)) (name : List ℕ) → AllByRecursion (λ other. other ≡ name → ⊥) names → AreDistinct names → AreDistinct (names ++ name ∷ [])
 distinct_push [] name new h = (tt, tt)
@@ -53,5 +54,5 @@ names_push : (ss : List Section) (s : Section) → map (λ (section : Section). 
 names_push [] s = refl
 names_push (x ∷ ss) s = ap (λ (names : List (List ℕ)). x.name ∷ names) (names_push ss s)
 
-pub own_push : (ss : List Section) (name : List ℕ) (at : ℕ) → is_taken ss name ≡ false → HasOwnNames ss → HasOwnNames (ss ++ record { name = name; at = at; lines = [] } ∷ [])
-own_push ss name at t h = subst AreDistinct (sym (names_push ss (record { name = name; at = at; lines = [] }))) (distinct_push (map (λ (section : Section). section.name) ss) name (not_taken ss name t) h)
+pub own_push : (ss : List Section) (name : List ℕ) (at : ℕ) → is_name name ≡ true → is_taken ss name ≡ false → HasOwnNames ss → HasOwnNames (ss ++ record { name = name; at = at; lines = [] } ∷ [])
+own_push ss name at n t h = subst AreDistinct (sym (names_push ss (record { name = name; at = at; lines = [] }))) (distinct_push (map (λ (section : Section). section.name) ss) name (not_taken ss name t) h)

@@ -11,7 +11,7 @@ use Rattle.guest_language.specs.declared.script.What.{What}
 use Rattle.guest_language.specs.declared.script.What.TheVariants.{Run}
 use Rattle.guest_language.specs.declared.slot.Made.{Made}
 use Rattle.guest_language.specs.declared.verb.Verb.{Verb}
-use Rattle.guest_language.specs.Facts.{IsFine, IsRun}
+use Rattle.guest_language.specs.Facts.{HasProperCall, IsFine, IsRun}
 use Rattle.guest_language.specs.Forks.{has_circle}
 use Rattle.guest_language.specs.Length.{is_too_long, lines_of}
 use Rattle.guest_language.specs.Made.{made_of}
@@ -21,6 +21,7 @@ use Rattle.guest_language.specs.Sections.{add_line, guest_step, is_printed, is_t
 use Rattle.guest_language.specs.Verbs.{verb_of}
 use Rattle.guest_language.specs.What.{aside_what, child_aside, in_background, line_what, only_aside, run_aside, verb_aside, verb_made_aside, what_of}
 use Rattle.script_words.specs.Words.{words_of}
+use Rattle.guest_language.proofs.ProperCalls.{proper_line}
 
 -- a result that is Ok with one value is Ok with no other
 given_same : {X E : Type 0} (x y : X) (r : Result X E) → r ≡ Ok x → r ≡ Ok y → x ≡ y
@@ -58,23 +59,23 @@ fine_line names ss at word words what e b = aside_runs words what (ap (λ (c : B
 
 -- what a new section keeps
 abbrev pub Pushes : (List Section → Type 0) → Type 0
-Pushes P = (ss : List Section) (name : List ℕ) (at : ℕ) → is_taken ss name ≡ false → P ss → P (ss ++ record { name = name; at = at; lines = [] } ∷ [])
+Pushes P = (ss : List Section) (name : List ℕ) (at : ℕ) → is_name name ≡ true → is_taken ss name ≡ false → P ss → P (ss ++ record { name = name; at = at; lines = [] } ∷ [])
 
 -- what a line more keeps
 abbrev pub Adds : (List Section → Type 0) → Type 0
-Adds P = (ss : List Section) (line : Line) → IsFine line → P ss → P (add_line ss line)
+Adds P = (ss : List Section) (line : Line) → IsFine line → HasProperCall line → P ss → P (add_line ss line)
 
 guest_keeps : (P : List Section → Type 0) → Pushes P → (ss : List Section) (at : ℕ) (words : List (List ℕ)) (new : List Section) → guest_step ss at words ≡ Ok new → P ss → P new
 guest_keeps P push ss at [] new h p = absurd (cc)
 guest_keeps P push ss at (a ∷ b ∷ words) new h p = absurd (cc)
 guest_keeps P push ss at (name ∷ []) new h p =
-    elim (is_name name) as (λ b. cond (not b) (Err kind.BadName) (cond (is_taken ss name) (Err kind.GuestTwice) pushed) ≡ Ok new → P new) [
-      | false ↦ λ h. absurd (cc)
-      | true ↦ λ h. elim (is_taken ss name) as (λ c. is_taken ss name ≡ c → cond c (Err kind.GuestTwice) pushed ≡ Ok new → P new) [
+    elim (is_name name) as (λ b. is_name name ≡ b → cond (not b) (Err kind.BadName) (cond (is_taken ss name) (Err kind.GuestTwice) pushed) ≡ Ok new → P new) [
+      | false ↦ λ n h. absurd (cc)
+      | true ↦ λ n h. elim (is_taken ss name) as (λ c. is_taken ss name ≡ c → cond c (Err kind.GuestTwice) pushed ≡ Ok new → P new) [
         | true ↦ λ e h. absurd (cc)
-        | false ↦ λ e h. subst P (given_same more new pushed refl h) (push ss name at e p)
+        | false ↦ λ e h. subst P (given_same more new pushed refl h) (push ss name at n e p)
       ] refl h
-    ] h
+    ] refl h
   where
     more : List Section
     more = ss ++ record { name = name; at = at; lines = [] } ∷ []
@@ -84,7 +85,7 @@ guest_keeps P push ss at (name ∷ []) new h p =
 
 what_keeps : (P : List Section → Type 0) → Adds P → (names : List (List ℕ)) (ss : List Section) (at : ℕ) (word : List ℕ) (words : List (List ℕ)) (new : List Section) (r : Result What ScriptKind) → what_of names ss (word ∷ words) ≡ r → what_step ss at (word ∷ words) r ≡ Ok new → P ss → P new
 what_keeps P add names ss at word words new (Err e1) e h p = absurd (cc)
-what_keeps P add names ss at word words new (Ok what) e h p = subst P (given_same (add_line ss (line_of at (word ∷ words) what)) new added refl h) (add ss (line_of at (word ∷ words) what) (fine_line names ss at word words what e) p)
+what_keeps P add names ss at word words new (Ok what) e h p = subst P (given_same (add_line ss (line_of at (word ∷ words) what)) new added refl h) (add ss (line_of at (word ∷ words) what) (fine_line names ss at word words what e) (proper_line names ss at word words what e) p)
   where
     added : Result (List Section) ScriptKind
     added = Ok (add_line ss (line_of at (word ∷ words) what))

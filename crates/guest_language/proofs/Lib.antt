@@ -1,4 +1,5 @@
 pub mod MemoryLaws
+pub mod ProperCalls
 pub mod Keeping
 pub mod FactLaws
 pub mod SpacedLines
@@ -8,3 +9,4 @@ pub mod SpelledLines
 pub mod SameNames
 pub mod JoinedLines
 pub mod SpelledScript
+pub mod SoundSections

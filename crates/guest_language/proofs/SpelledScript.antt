@@ -47,12 +47,12 @@ short_too text new bytes lines guests h =
     (ap (λ (n : ℕ). nat_lt MOST_GUESTS n) guests ∙ whole.1)
 
 -- what a text reads as: it isn't too long, and there is no circle
-record IsRead (text : List ℕ) (script : List Section) : Type 0 where
-  short : is_too_long text ≡ false
-  read : steps (names_of (lines_of text)) [] 1 (lines_of text) ≡ Ok script
-  sound : uncircled (Ok script) ≡ Ok script
+pub record IsRead (text : List ℕ) (script : List Section) : Type 0 where
+  pub short : is_too_long text ≡ false
+  pub read : steps (names_of (lines_of text)) [] 1 (lines_of text) ≡ Ok script
+  pub sound : uncircled (Ok script) ≡ Ok script
 
-is_read : (text : List ℕ) (script : List Section) → script_of text ≡ Ok script → IsRead text script
+pub is_read : (text : List ℕ) (script : List Section) → script_of text ≡ Ok script → IsRead text script
 is_read text script h =
     elim (is_too_long text) as (λ b. is_too_long text ≡ b → cond b (Err (whole_fault kind.TooLong)) (uncircled read) ≡ Ok script → IsRead text script) [
       | true ↦ λ e h. absurd (cc)

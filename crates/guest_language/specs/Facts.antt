@@ -1,10 +1,13 @@
 -- What holds of every script.
-use Rattle.std.specs.Prelude.{◌≡◌, ℕ, List, [], ◌∷◌, map, true}
+use Rattle.std.specs.Prelude.{◌≡◌, ◌≤◌, ℕ, List, [], ◌∷◌, length, map, true}
 use Rattle.std.specs.List.{AllByRecursion}
+use Rattle.sp_base.specs.Call.{IsProper}
+use Rattle.guest_language.specs.declared.length.TheConstants.{MOST_LINES}
 use Rattle.guest_language.specs.declared.script.Line.{Line}
 use Rattle.guest_language.specs.declared.script.Section.{Section}
 use Rattle.guest_language.specs.declared.script.What.{What}
 use Rattle.guest_language.specs.declared.script.What.TheVariants.{Exec, Fork, Join, Run}
+use Rattle.guest_language.specs.Names.{is_name}
 
 -- a system call, and neither fork, exec nor join
 abbrev pub IsRun : What → Type 0
@@ -29,3 +32,20 @@ AreDistinct (name ∷ names) = AllByRecursion (λ other. other ≡ name → ⊥)
 -- no two sections have the same name
 abbrev pub HasOwnNames : List Section → Type 0
 HasOwnNames sections = AreDistinct (map (λ section. section.name) sections)
+
+-- a call that the table of calls has as such, or no call
+abbrev pub IsProperWhat : What → Type 0
+IsProperWhat (Run call) = IsProper call
+IsProperWhat (Fork child) = Unit {0}
+IsProperWhat Exec = Unit {0}
+IsProperWhat Join = Unit {0}
+
+-- the call of a line, where it has one, is one that the table of calls has as such
+abbrev pub HasProperCall : Line → Type 0
+HasProperCall line = IsProperWhat line.what
+
+-- a guest has a guest's name, its calls are proper, and its lines are no more than a script has
+pub record IsSoundSection (section : Section) : Type 0 where
+  pub named : is_name section.name ≡ true
+  pub proper : AllByRecursion HasProperCall section.lines
+  pub few : length section.lines ≤ MOST_LINES

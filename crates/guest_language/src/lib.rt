@@ -22,7 +22,9 @@ mod whole;
 
 pub use call_line::made_of;
 pub use fault::{ScriptFault, ScriptKind};
-pub use laws::{background_lines_are_calls, names_are_distinct, scripts_are_read_as_spelled};
+pub use laws::{
+    background_lines_are_calls, names_are_distinct, scripts_are_read_as_spelled, sections_are_sound,
+};
 pub use length::{MOST_BYTES, MOST_GUESTS, MOST_LINES};
 pub use memory::call_words;
 pub use script::{Line, Parent, Section, What};
