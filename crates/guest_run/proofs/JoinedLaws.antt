@@ -1,24 +1,21 @@
 -- What the methods of a joined client and server do are the moves of their link.
-use Rattle.std.proofs.Common.{◌≡◌, ◌≢◌, inl, inr, List, Bool, true, false, Option, Some, None, refl, sym, ap, subst, ◌∙◌}
+use Rattle.std.proofs.Common.{◌≡◌, ◌≢◌, inl, inr, List, Bool, true, false, Some, None, refl, sym, ap, subst, ◌∙◌}
 use Rattle.sp_base.specs.declared.names.ConnNo.{ConnNo}
-use Rattle.sp_base.specs.declared.names.ReqNo.{ReqNo}
 use Rattle.sp_copy.specs.declared.part.Part.{Part}
 use Rattle.sp_frames.specs.declared.frame.Frame.{Frame}
 use Rattle.hub_model.specs.Machine as server
 use Rattle.hub_model.specs.State.{Machine}
-use Rattle.hub_model.specs.State as server_state
 use Rattle.hub_model.specs.declared.event.Event.{Event as ServerEvent}
 use Rattle.hub_model.specs.declared.event.Event.TheVariants as server_event
 use Rattle.hub_model.specs.declared.event.Reply.{Reply as ServerReply}
 use Rattle.hub_model.specs.declared.event.Reply.TheVariants as server_reply
 use Rattle.client_model.specs.Machine as client
 use Rattle.client_model.specs.State.{Client}
-use Rattle.client_model.specs.State as client_state
 use Rattle.client_model.specs.declared.event.Event.{Event as ClientEvent}
 use Rattle.client_model.specs.declared.event.Event.TheVariants as client_event
 use Rattle.client_model.specs.declared.event.Reply.{Reply as ClientReply}
 use Rattle.client_model.specs.declared.event.Reply.TheVariants as client_reply
-use Rattle.link_model.specs.Link.{Link, Made, made, client_hands, server_hands, to_server, to_client, server_plays, client_plays}
+use Rattle.link_model.specs.Link.{Link, made, client_hands, server_hands, to_server, to_client, server_plays, client_plays}
 use Rattle.link_model.specs.declared.moves.Move.TheVariants.{ToServer, ToClient}
 
 -- whether there is memory matters to no frame that comes

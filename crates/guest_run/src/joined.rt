@@ -20,7 +20,7 @@ use sp_hub::{Hub, Reply as ServerReply};
 use std::alloc::Global;
 
 /// The number of the one connection.
-const CONNECTION: ConnNo = ConnNo(0);
+pub(crate) const CONNECTION: ConnNo = ConnNo(0);
 
 /// A client, its server, and the two directions of the link between them.
 ///

@@ -1,9 +1,18 @@
 //! The run of one guest over the cores of the server and the client, joined in one process.
 #![tactic(auto)]
 
+mod calling;
+mod greeting;
 mod joined;
+mod outside;
+mod rows;
+mod running;
+mod steps;
 #[cfg(test)]
 mod tests;
 mod wire;
 
+pub use calling::Called;
 pub use joined::Joined;
+pub use outside::outside_line;
+pub use running::{Ran, run};

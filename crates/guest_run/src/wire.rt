@@ -8,7 +8,8 @@ use sp_frames::{Frame, FrameFault, Framer, encode};
 use std::alloc::Global;
 use std::marker::Model;
 
-/// A direction of the link. Frames pass it as bytes, one at a time, so nothing is under way between two calls.
+/// A direction of the link. Frames pass it as bytes, one at a time, so nothing is under way between
+/// two calls.
 #[derive(Drop)]
 pub struct Wire {
     alloc: Global,
@@ -58,8 +59,8 @@ impl Wire {
         }
     }
 
-    /// Sends a frame as its bytes, and gives what comes out of them: that frame, and nothing is left.
-    /// The only error is want of memory.
+    /// Sends a frame as its bytes, and gives what comes out of them: that frame, and nothing is
+    /// left. The only error is want of memory.
     pub fn send(&mut self, frame: &Frame) -> Result<Frame, NoMemory>
         requires { Fits frame.now }
         ensures { IfOk result (λ passed. passed ≡ frame.now) }

@@ -1,0 +1,6 @@
+use Rattle.guest_run.specs.Joined.{link_of}
+use Rattle.guest_run.proofs.StepLaws.{IsTelling}
+use Rattle.guest_run.proofs.joined.Joined.tell.Given as goal
+
+abbrev pub invariant-loop : goal.invariant-loop
+invariant-loop l = IsTelling l.count l.counter (link_of l.fn.self) (link_of l.self)
