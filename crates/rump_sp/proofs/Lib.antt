@@ -1,8 +1,4 @@
-pub mod WireLaws
-pub mod MachineLaws
-pub mod NameLaws
-pub mod CallLaws
-pub mod RunLaws
+pub mod WordLaws
 pub mod TopLaws
 pub mod StdioLaws
 pub mod ShownLaws

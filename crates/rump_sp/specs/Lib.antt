@@ -1,5 +1,3 @@
-pub mod Run
-pub mod Guest
 pub mod Words
 pub mod Failure
 pub mod Top

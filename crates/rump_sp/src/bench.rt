@@ -1,54 +1,36 @@
 //! The command `bench`: a script is read and run, and its rows are written.
-ghost use Rattle.std.specs.Prelude.{◌≡◌, ◌≢◌, ◌⊎◌, Option, true, false, IfOk, IfErr, Contains};
+ghost use Rattle.std.specs.Prelude.{◌≡◌, ◌≢◌, ◌⊎◌, Option, true, false, Contains};
 ghost use Rattle.std.specs.Io.KnownBytes.{Keeps};
 ghost use Rattle.sp_io.specs.Causes.{Rose};
 ghost use Rattle.rump_sp.specs.declared.failure.Failure.{Failure};
 ghost use Rattle.rump_sp.specs.Failure.{statuses, exit_status, told_of, Tells};
-ghost use Rattle.rump_sp.specs.Top.{Shows, Prints, PrintsFront, TellsFault, IsScriptFailure, failure_of};
+ghost use Rattle.rump_sp.specs.Top.{Prints, PrintsFront, TellsFault};
 
 use crate::failure::{Failure, fail};
-use crate::run::run;
-use guest_script::{Script, ScriptFault, ScriptKind};
-use sp_base::Octets;
+use crate::shown::show;
+use guest_language::{ScriptFault, ScriptKind};
 use sp_io::{Failed, Sink, Source, TakeFault, put_all, take_all};
 use std::alloc::Global;
 
 /// The most bytes of a script that are read: 16 MiB.
 const MOST_BYTES: u32 = 16_777_216;
 
-/// The failure that a script's fault is.
-fn failure_of(fault: ScriptFault) -> Failure
-    ensures { result ≡ failure_of fault }
-{
-    match fault.kind {
-        ScriptKind::TooLong => Failure::TooLong,
-        ScriptKind::NotReadYet => Failure::Line(fault.line),
-        ScriptKind::NoMemory => Failure::NoMemory,
-    }
-}
+/// What a text that is too long to be read whole fails by.
+const TOO_LONG: Failure = Failure::Script(ScriptFault {
+    line: 0,
+    kind: ScriptKind::TooLong,
+});
 
-/// What the script that a text is shows.
-fn shown(alloc: Global, text: &[u8]) -> Result<Octets, Failure>
-    ensures shows { IfOk result (Shows text.now) }
-    ensures fault { IfErr result (IsScriptFailure text.now) }
-{
-    let script = match Script::read(alloc, text) {
-        Ok(script) => script,
-        Err(fault) => return Err(failure_of(fault)),
-    };
-    match script.sections.slice() {
-        [] => Ok(Octets::none(alloc)),
-        [section] => Ok(run(alloc, section)?),
-        _ => unreachable!(),
-    }
-}
-
-/// Reads a script from `input`, runs it, and writes the rows of its lines to `out`; gives the exit status.
+/// Reads a script from `input`, runs it, and writes the rows of its lines to `out`, and behind them
+/// the journals of the kernels where they are asked for; gives the exit status.
 ///
-/// What keeps it from its end is told in one line on `err`, whose own faults are passed over. The first cause decides, and nothing
-/// is written before the input was read to its end and the run is over.
+/// Where the server refuses a call for want of memory, the rows up to that call's are written and
+/// no journals, and the status is that of want of memory. What keeps it from its end is told in one
+/// line on `err`, whose own faults are passed over. The first cause decides, and nothing is written
+/// before the input was read to its end and the run is over.
 pub fn bench_main<I: Source, O: Sink, E: Sink>(
     alloc: Global,
+    journals: bool,
     input: &mut I,
     out: &mut O,
     err: &mut E,
@@ -73,8 +55,10 @@ pub fn bench_main<I: Source, O: Sink, E: Sink>(
 
     // What was read and written then.
     ensures read { result ≡ 0 → I.ended input.new ≡ true }
-    ensures rows { result ≡ 0 → Prints (I.left input.old) (O.held out.old) (O.held out.new) }
-    ensures other { result ≢ 0 → PrintsFront (I.left input.old) (O.held out.old) (O.held out.new) }
+    ensures rows { result ≡ 0
+        → Prints journals (I.left input.old) (O.held out.old) (O.held out.new) }
+    ensures other { result ≢ 0
+        → PrintsFront journals (I.left input.old) (O.held out.old) (O.held out.new) }
     ensures early { I.ended input.new ≡ false → Keeps (O.held out.old) (O.held out.new) }
 
     // What stays.
@@ -86,14 +70,15 @@ pub fn bench_main<I: Source, O: Sink, E: Sink>(
         Ok(text) => text,
         Err(TakeFault::Failed) => return fail(err, Failure::Input),
         Err(TakeFault::NoMemory) => return fail(err, Failure::NoMemory),
-        Err(TakeFault::TooLong) => return fail(err, Failure::TooLong),
+        Err(TakeFault::TooLong) => return fail(err, TOO_LONG),
     };
-    let rows = match shown(alloc, text.slice()) {
-        Ok(rows) => rows,
+    let shown = match show(alloc, text.slice(), journals) {
+        Ok(shown) => shown,
         Err(failure) => return fail(err, failure),
     };
-    match put_all(out, rows.slice()) {
-        Ok(()) => 0,
+    match put_all(out, shown.text.slice()) {
         Err(Failed) => fail(err, Failure::Output),
+        Ok(()) if shown.whole => 0,
+        Ok(()) => fail(err, Failure::NoMemory),
     }
 }

@@ -4,13 +4,11 @@
 mod bench;
 mod failure;
 mod laws;
-mod run;
-mod runner;
+mod shown;
 mod stdio;
 #[cfg(test)]
 mod tests;
 mod top;
-mod wire;
 mod words;
 
 use crate::failure::{Failure, fail};

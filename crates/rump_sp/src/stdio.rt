@@ -27,7 +27,8 @@ fn failure_in(end: StdioEnd) -> Option<Failure>
     }
 }
 
-/// Serves one connection whose frames come from `input` and whose answers go to `out`; gives the exit status.
+/// Serves one connection whose frames come from `input` and whose answers go to `out`; gives the
+/// exit status.
 ///
 /// What keeps it from a clean end is told in one line on `err`, whose own faults are passed over.
 pub fn stdio_main<I: Source, S: Salt, O: Sink, E: Sink>(
@@ -44,8 +45,18 @@ pub fn stdio_main<I: Source, S: Salt, O: Sink, E: Sink>(
     // How the service ended, what was read, written and drawn until then, and what is told of it.
     ensures serves { (end : StdioEnd) × (result ≡ end_status end)
         × IsServed
-        (record { left = I.left input.old; passed = I.passed input.old; held = O.held out.old; drawn = S.drawn salt.old })
-        (record { left = I.left input.new; passed = I.passed input.new; held = O.held out.new; drawn = S.drawn salt.new }) end
+        (record {
+          left = I.left input.old;
+          passed = I.passed input.old;
+          held = O.held out.old;
+          drawn = S.drawn salt.old;
+        })
+        (record {
+          left = I.left input.new;
+          passed = I.passed input.new;
+          held = O.held out.new;
+          drawn = S.drawn salt.new;
+        }) end
         × HasEndCause end (I.ended input.new) (I.faults input.old) (I.faults input.new)
         (O.faults out.old) (O.faults out.new) (S.faults salt.old) (S.faults salt.new)
         × Tells (E.faults err.old) (E.faults err.new) (E.held err.old) (E.held err.new)

@@ -8,7 +8,9 @@ use std::alloc::Global;
 use std::test::Fail;
 
 mod connection;
+mod faulty;
 mod order;
+mod scripts;
 
 /// Which calls of the input, the output and the messages fail, by their numbers from 0.
 #[derive(Clone, Copy)]
@@ -62,110 +64,51 @@ fn outcome_of(
     outcome_over(alloc, words, &mut source, fails)
 }
 
-/// The right words are those that clap takes: a flag once, in a bundle of its own, and behind `--` no word at all.
+/// What is printed with `-j` where nothing ran.
+const NO_ENTRIES: &str = "journal rump\njournal host\n";
+
+/// The right words are those that clap takes: a flag once, alone or in a bundle, and behind `--` no
+/// word at all.
 #[test]
 fn words(rt: HostRuntime) -> Result<(), Fail> {
-    let rows: [(&[&str], u8); 21] = [
-        (&["bench", "-r"], 0),
-        (&["bench", "-r", "--"], 0),
-        (&[], 64),
-        (&["bench"], 64),
-        (&["-r", "bench"], 64),
-        (&["bench", "-r", "-r"], 64),
-        (&["bench", "-rr"], 64),
-        (&["bench", "-r", "x"], 64),
-        (&["bench", "-r", ""], 64),
-        (&["bench", "-r", "--", "x"], 64),
-        (&["bench", "-R"], 64),
-        (&["bench", "--raw"], 64),
-        (&["bench", "--help"], 64),
-        (&["bench", "-h"], 64),
-        (&["bench", "-V"], 64),
-        (&["bench", "--version"], 64),
-        (&["stdio", "x"], 64),
-        (&["stdio", "-r"], 64),
-        (&["local", "-r"], 64),
-        (&["frob"], 64),
-        (&["Stdio"], 64),
+    let rows: [(&[&str], u8, &str); 30] = [
+        (&["bench", "-r"], 0, ""),
+        (&["bench", "-r", "--"], 0, ""),
+        (&["bench", "-r", "-j"], 0, NO_ENTRIES),
+        (&["bench", "-j", "-r"], 0, NO_ENTRIES),
+        (&["bench", "-rj"], 0, NO_ENTRIES),
+        (&["bench", "-jr", "--"], 0, NO_ENTRIES),
+        (&[], 64, ""),
+        (&["bench"], 64, ""),
+        (&["-r", "bench"], 64, ""),
+        (&["bench", "-j"], 64, ""),
+        (&["bench", "-r", "-r"], 64, ""),
+        (&["bench", "-rr"], 64, ""),
+        (&["bench", "-rjr"], 64, ""),
+        (&["bench", "-rjj"], 64, ""),
+        (&["bench", "-j", "-r", "-j"], 64, ""),
+        (&["bench", "-r", "x"], 64, ""),
+        (&["bench", "-r", ""], 64, ""),
+        (&["bench", "-r", "--", "-j"], 64, ""),
+        (&["bench", "-R"], 64, ""),
+        (&["bench", "--raw"], 64, ""),
+        (&["bench", "-r", "--journals"], 64, ""),
+        (&["bench", "--help"], 64, ""),
+        (&["bench", "-h"], 64, ""),
+        (&["bench", "-V"], 64, ""),
+        (&["bench", "--version"], 64, ""),
+        (&["stdio", "x"], 64, ""),
+        (&["stdio", "-j"], 64, ""),
+        (&["local", "-r"], 64, ""),
+        (&["frob"], 64, ""),
+        (&["Stdio"], 64, ""),
     ];
     let usage = "rump_sp: usage: rump_sp stdio|local|bench|server|guest|load [options]\n";
-    for (words, want) in rows {
-        let got = outcome_of(rt.alloc(), words, b"guest a\ngetpid\n", NO_FAILS)?;
-        assert_eq!(rt; got.status, want, "at {words:?}");
-        let (out, err) = if want == 0 {
-            ("a.1 rump 1 getpid = 2\n", "")
-        } else {
-            ("", usage)
-        };
+    for (words, status, out) in rows {
+        let got = outcome_of(rt.alloc(), words, b"", NO_FAILS)?;
+        let err = if status == 0 { "" } else { usage };
+        assert_eq!(rt; got.status, status, "at {words:?}");
         assert_eq!(rt; str::from_utf8(got.out.slice())?, out);
-        assert_eq!(rt; str::from_utf8(got.err.slice())?, err);
-    }
-    Ok(())
-}
-
-#[test]
-fn scripts(rt: HostRuntime) -> Result<(), Fail> {
-    let rows = [
-        ("", 0, "", ""),
-        ("guest a\n", 0, "", ""),
-        (
-            "guest a\ngetpid\nclose 3\n",
-            0,
-            "a.1 rump 1 getpid = 2\na.2 rump 2 close 3 = -1 EBADF\n",
-            "",
-        ),
-        (
-            "guest b_2\nclose 0\nclose 4294967295\ngetpid\n",
-            0,
-            "b_2.1 rump 1 close 0 = -1 EBADF\nb_2.2 rump 2 close 4294967295 = -1 EBADF\nb_2.3 rump 3 getpid = 2\n",
-            "",
-        ),
-        (
-            "guest a\ngetpid\nfrob\nclose 3\n",
-            65,
-            "",
-            "rump_sp: script line 3: not read yet\n",
-        ),
-        ("frob", 65, "", "rump_sp: script line 1: not read yet\n"),
-    ];
-    for (script, status, out, err) in rows {
-        let got = outcome_of(rt.alloc(), &["bench", "-r"], script.as_bytes(), NO_FAILS)?;
-        assert_eq!(rt; got.status, status, "at {script}");
-        assert_eq!(rt; str::from_utf8(got.out.slice())?, out);
-        assert_eq!(rt; str::from_utf8(got.err.slice())?, err);
-    }
-    Ok(())
-}
-
-#[test]
-fn long_scripts(rt: HostRuntime) -> Result<(), Fail> {
-    let rows = [
-        (
-            "guest a\n",
-            200,
-            65,
-            "",
-            "rump_sp: script: script too long\n",
-        ),
-        (
-            "getpid\n",
-            100,
-            0,
-            "a.98 rump 98 getpid = 2\na.99 rump 99 getpid = 2\na.100 rump 100 getpid = 2\n",
-            "",
-        ),
-    ];
-    for (line, count, status, end, err) in rows {
-        let mut script = Octets::of(rt.alloc(), b"guest a\n")?;
-        for _ in 0..count {
-            script.extend(line.as_bytes())?;
-        }
-        let got = outcome_of(rt.alloc(), &["bench", "-r"], script.slice(), NO_FAILS)?;
-        assert_eq!(rt; got.status, status, "{count} times {line}");
-        assert!(rt;
-            got.out.slice().ends_with(end.as_bytes()),
-            "{count} times {line}"
-        );
         assert_eq!(rt; str::from_utf8(got.err.slice())?, err);
     }
     Ok(())
@@ -176,7 +119,7 @@ fn faults(rt: HostRuntime) -> Result<(), Fail> {
     let row = "a.1 rump 1 getpid = 2\n";
     let input = "rump_sp: input fault\n";
     let output = "rump_sp: output fault\n";
-    let line = "rump_sp: script line 1: not read yet\n";
+    let line = "rump_sp: script line 1: no guest yet\n";
     let script = "guest a\ngetpid\n";
     let rows: [(
         &str,

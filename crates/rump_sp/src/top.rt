@@ -1,5 +1,5 @@
 //! The program over a source and two sinks.
-ghost use Rattle.std.specs.Prelude.{◌≡◌, ◌≢◌, ◌⊎◌, Option, true, false, None, map, Contains};
+ghost use Rattle.std.specs.Prelude.{◌≡◌, ◌≢◌, ◌⊎◌, Bool, Option, true, false, None, map, Contains};
 ghost use Rattle.std.specs.Io.KnownBytes.{Keeps};
 ghost use Rattle.sp_io.specs.Causes.{Rose};
 ghost use Rattle.sp_server.specs.Stdio.{IsServed};
@@ -19,11 +19,13 @@ use sp_io::{Salt, Sink, Source};
 use std::alloc::Global;
 use std::convert::AsStr;
 
-/// The program: it does what the words of the command line behind its name ask for, and gives the exit status.
+/// The program: it does what the words of the command line behind its name ask for, and gives the
+/// exit status.
 ///
-/// `bench -r` reads a script from `input`, runs it, and writes the rows of its lines to `out`. `stdio` serves one connection over
-/// `input` and `out`. What keeps it from its end is told in one line on `err`, whose own faults are passed over. The first cause
-/// decides.
+/// `bench -r` reads a script from `input`, runs it, and writes the rows of its lines to `out`, and
+/// with `-j` the journals behind them. `stdio` serves one connection over `input` and `out`. What
+/// keeps it from its end is told in one line on `err`, whose own faults are passed over. The first
+/// cause decides.
 pub fn rump_main<W: AsStr, S: Salt, I: Source, O: Sink, E: Sink>(
     alloc: Global,
     words: &[W],
@@ -49,23 +51,38 @@ pub fn rump_main<W: AsStr, S: Salt, I: Source, O: Sink, E: Sink>(
         (told_of failure) }
 
     // What a script's guests do, and what is written of it; it takes no salt.
-    ensures no_salt_needed { AsksFor (map W.text words.now) Asked.Bench → result ≢ 71 }
-    ensures script { AsksFor (map W.text words.now) Asked.Bench → result ≡ 65
+    ensures no_salt_needed { (journals : Bool)
+        → AsksFor (map W.text words.now) (Asked.Bench journals) → result ≢ 71 }
+    ensures script { (journals : Bool)
+        → AsksFor (map W.text words.now) (Asked.Bench journals) → result ≡ 65
         → TellsFault (I.left input.old)
         (Tells (E.faults err.old) (E.faults err.new) (E.held err.old) (E.held err.new)) }
-    ensures rows { AsksFor (map W.text words.now) Asked.Bench → result ≡ 0
-        → Prints (I.left input.old) (O.held out.old) (O.held out.new) }
-    ensures other { AsksFor (map W.text words.now) Asked.Bench → result ≢ 0
-        → PrintsFront (I.left input.old) (O.held out.old) (O.held out.new) }
-    ensures early { AsksFor (map W.text words.now) Asked.Bench → I.ended input.new ≡ false
+    ensures rows { (journals : Bool)
+        → AsksFor (map W.text words.now) (Asked.Bench journals) → result ≡ 0
+        → Prints journals (I.left input.old) (O.held out.old) (O.held out.new) }
+    ensures other { (journals : Bool)
+        → AsksFor (map W.text words.now) (Asked.Bench journals) → result ≢ 0
+        → PrintsFront journals (I.left input.old) (O.held out.old) (O.held out.new) }
+    ensures early { (journals : Bool)
+        → AsksFor (map W.text words.now) (Asked.Bench journals) → I.ended input.new ≡ false
         → Keeps (O.held out.old) (O.held out.new) }
 
     // How one connection is served.
     ensures stdio { AsksFor (map W.text words.now) Asked.Stdio → (end : StdioEnd)
         × (result ≡ end_status end)
         × IsServed
-        (record { left = I.left input.old; passed = I.passed input.old; held = O.held out.old; drawn = S.drawn salt.old })
-        (record { left = I.left input.new; passed = I.passed input.new; held = O.held out.new; drawn = S.drawn salt.new }) end
+        (record {
+          left = I.left input.old;
+          passed = I.passed input.old;
+          held = O.held out.old;
+          drawn = S.drawn salt.old;
+        })
+        (record {
+          left = I.left input.new;
+          passed = I.passed input.new;
+          held = O.held out.new;
+          drawn = S.drawn salt.new;
+        }) end
         × HasEndCause end (I.ended input.new) (I.faults input.old) (I.faults input.new)
         (O.faults out.old) (O.faults out.new) (S.faults salt.old) (S.faults salt.new)
         × Tells (E.faults err.old) (E.faults err.new) (E.held err.old) (E.held err.new)
@@ -83,7 +100,7 @@ pub fn rump_main<W: AsStr, S: Salt, I: Source, O: Sink, E: Sink>(
 {
     match read_words(alloc, words) {
         Ok(Some(Asked::Stdio)) => stdio_main(alloc, input, salt, out, err),
-        Ok(Some(Asked::Bench)) => bench_main(alloc, input, out, err),
+        Ok(Some(Asked::Bench { journals })) => bench_main(alloc, journals, input, out, err),
         Ok(None) => fail(err, Failure::Usage),
         Err(NoMemory) => fail(err, Failure::NoMemory),
     }
