@@ -1,0 +1,3 @@
+pub mod Jars
+pub mod Firsts
+pub mod Cancelled

@@ -1,0 +1,3 @@
+pub mod Jar
+pub mod Run
+pub mod Code
