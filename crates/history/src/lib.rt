@@ -1,0 +1,6 @@
+//! Histories that only proofs read.
+#![tactic(auto)]
+
+mod log;
+
+pub use log::Log;

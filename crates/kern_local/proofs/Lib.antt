@@ -1,0 +1,4 @@
+pub mod TrackLemmas
+pub mod ListedLaws
+pub mod TableLemmas
+pub mod ChannelLemmas

@@ -1,0 +1,4 @@
+pub mod Rings
+pub mod Kinds
+pub mod Listed
+pub mod LedgerLends
