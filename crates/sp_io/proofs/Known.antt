@@ -2,7 +2,7 @@
 use Rattle.std.proofs.Common.{◌≡◌, ℕ, ◌+◌, ◌≤◌, List, ◌++◌, length, take, Option, Some, None, sym, ap, ◌∙◌, append_assoc, length-append, arith}
 use Rattle.std.specs.Io.KnownBytes.{Appends, Consumes, Keeps}
 use Rattle.std.proofs.Math.Seq.{take-append_seam}
-use Rattle.sp_io.specs.Causes.{raised, Rose}
+use Rattle.sp_io.specs.Causes.{Rose}
 use Rattle.sp_io.specs.Whole.{TakesAtMost, AppendsFirst}
 
 -- two writes in a row are one of both pieces

@@ -1,5 +1,5 @@
 //! Where bytes come from.
-ghost use Rattle.std.specs.Prelude.{◌≡◌, ◌⊎◌, ◌≤◌, ◌<◌, ◌↔◌, ◌++◌, [], None, Some, List, ℕ, Bool, true, false, length, take, drop, Option, Contains, IfOk, IsOkAnd, MatchResult};
+ghost use Rattle.std.specs.Prelude.{◌≡◌, ◌⊎◌, ◌≤◌, ◌<◌, ◌↔◌, ◌++◌, [], None, Some, List, ℕ, Bool, true, false, length, take, drop, Option, Contains, OnOk, OnErr, IfOk, IsOkAnd, MatchResult};
 ghost use Rattle.std.specs.Io.KnownBytes.{Keeps, Appends, Consumes, IsAtEnd};
 ghost use Rattle.sp_io.specs.Causes.{HasReadCause, raised};
 ghost use Rattle.sp_io.specs.declared.fault.IoFault.TheVariants as fault;
@@ -11,6 +11,15 @@ use sp_base::{NoMemory, Octets};
 use std::alloc::Global;
 use std::io::Read;
 use std::marker::Model;
+use std::mem;
+
+/// Takes out what a piece holds, with its memory, and leaves it empty.
+fn taken_out(alloc: Global, piece: &mut Octets) -> Vec<u8>
+    ensures result { result.items ≡ piece.old }
+    ensures piece { piece.new ≡ [] }
+{
+    mem::replace(piece, Octets::none(alloc)).into_vec()
+}
 
 /// Where bytes come from.
 ///
@@ -31,23 +40,26 @@ pub trait Source {
     /// Whether it is done with. Only `done` changes that.
     ghost is_done: { Self → Bool };
 
-    /// The next bytes, at least one and at most `max`; an empty piece is the end.
+    /// Puts the next bytes in the place of what the piece holds, at least one and at most `max`; an empty piece is the end.
     ///
-    /// An error takes nothing off the source. Failed comes only where the count of faults rose.
-    fn take(&mut self, alloc: Global, max: u32) -> Result<Octets, IoFault>
+    /// The piece's memory is used again. An error takes nothing off the source, and leaves the piece
+    /// empty. Failed comes only where the count of faults rose.
+    fn take(&mut self, alloc: Global, piece: &mut Octets, max: u32) -> Result<(), IoFault>
         requires some { 0 < max }
         requires open { is_done self.old ≡ false }
-        ensures most { IfOk result (λ piece. length piece ≤ max) }
-        ensures left { MatchResult result (λ piece. Consumes (left self.old) (left self.new) piece)
+        ensures most { OnOk result (length piece.new ≤ max) }
+        ensures none { OnErr result (piece.new ≡ []) }
+        ensures left { MatchResult result
+            (λ _. Consumes (left self.old) (left self.new) piece.new)
             (λ _. Keeps (left self.old) (left self.new)) }
         ensures passed { MatchResult result
-            (λ piece. Appends (passed self.old) (passed self.new) piece)
+            (λ _. Appends (passed self.old) (passed self.new) piece.new)
             (λ _. Keeps (passed self.old) (passed self.new)) }
-        ensures end { IfOk result (λ piece. piece ≡ [] → IsAtEnd (left self.old)) }
-        ensures ended { IfOk result (λ piece. piece ≡ [] → ended self.new ≡ true) }
+        ensures end { OnOk result (piece.new ≡ [] → IsAtEnd (left self.old)) }
+        ensures ended { OnOk result (piece.new ≡ [] → ended self.new ≡ true) }
         ensures stays { ended self.old ≡ true → ended self.new ≡ true }
         ensures only_then { ended self.new ≡ true
-            → (ended self.old ≡ true) ⊎ IsOkAnd result (λ piece. piece ≡ []) }
+            → (ended self.old ≡ true) ⊎ IsOkAnd result (λ _. piece.new ≡ []) }
         ensures open { is_done self.new ≡ false }
         ensures cause { HasReadCause (faults self.old) (faults self.new) result };
 
@@ -116,23 +128,25 @@ impl Source for MemSource {
 
     /// As every source, and beside that: the calls that are told to fail do, and no others; a call
     /// that has memory gives as many bytes as it may.
-    fn take(&mut self, alloc: Global, max: u32) -> Result<Octets, IoFault>
+    fn take(&mut self, alloc: Global, piece: &mut Octets, max: u32) -> Result<(), IoFault>
         requires some { 0 < max }
         requires open { self.old.is_done ≡ false }
 
         // which calls fail, and what the others give
         ensures fails { (result ≡ Err fault.Failed) ↔ Contains self.old.fails self.old.calls }
-        ensures piece { IfOk result (λ piece. piece ≡ take max self.old.left) }
+        ensures piece { OnOk result (piece.new ≡ take max self.old.left) }
+        ensures none { OnErr result (piece.new ≡ []) }
 
         // what is left, and what was passed
-        ensures left { MatchResult result (λ piece. self.old.left ≡ piece ++ self.new.left)
+        ensures left { MatchResult result (λ _. self.old.left ≡ piece.new ++ self.new.left)
             (λ _. self.new.left ≡ self.old.left) }
-        ensures passed { MatchResult result (λ piece. self.new.passed ≡ self.old.passed ++ piece)
+        ensures passed { MatchResult result
+            (λ _. self.new.passed ≡ self.old.passed ++ piece.new)
             (λ _. self.new.passed ≡ self.old.passed) }
-        ensures ended { IfOk result (λ piece. piece ≡ [] → self.new.ended ≡ true) }
+        ensures ended { OnOk result (piece.new ≡ [] → self.new.ended ≡ true) }
         ensures stays { self.old.ended ≡ true → self.new.ended ≡ true }
         ensures only_then { self.new.ended ≡ true
-            → (self.old.ended ≡ true) ⊎ IsOkAnd result (λ piece. piece ≡ []) }
+            → (self.old.ended ≡ true) ⊎ IsOkAnd result (λ _. piece.new ≡ []) }
         ensures open { self.new.is_done ≡ false }
 
         // how its calls are counted
@@ -142,6 +156,8 @@ impl Source for MemSource {
             (λ e. e ≡ fault.Failed → self.new.faults ≡ raised self.old.faults) }
         ensures cause { HasReadCause self.old.faults self.new.faults result }
     {
+        let mut given = taken_out(alloc, piece);
+        given.clear();
         if self.calls.next_fails() {
             self.faults.raise();
             return Err(IoFault::Failed);
@@ -149,10 +165,12 @@ impl Source for MemSource {
         let (_, rest) = self.bytes.slice().split_at(self.at);
         let count = rest.len().min(max as usize);
         let (first, _) = rest.split_at(count);
-        let piece = Octets::of(alloc, first)?;
+        let mut given = Octets::from_vec(given);
+        given.extend(first)?;
+        *piece = given;
         self.at += count;
         self.ended = self.ended || count == 0;
-        Ok(piece)
+        Ok(())
     }
 
     fn done(&mut self)
@@ -205,31 +223,33 @@ impl<R: Read> Source for ReadSource<R> {
     ghost is_done = { reading_is_done };
 
     /// As every source, and beside that: what it answers was read, and nothing else was.
-    fn take(&mut self, alloc: Global, max: u32) -> Result<Octets, IoFault>
+    fn take(&mut self, alloc: Global, piece: &mut Octets, max: u32) -> Result<(), IoFault>
         requires some { 0 < max }
         requires open { reading_is_done self.old ≡ false }
-        ensures most { IfOk result (λ piece. length piece ≤ max) }
+        ensures most { OnOk result (length piece.new ≤ max) }
+        ensures none { OnErr result (piece.new ≡ []) }
         ensures read { let before = R.remaining (reader_of self.old) in
             let after = R.remaining (reader_of self.new) in
-            MatchResult result (λ piece. Consumes before after piece) (λ _. Keeps before after) }
-        ensures end { IfOk result (λ piece.
-            piece ≡ [] → IsAtEnd (R.remaining (reader_of self.new))) }
-        ensures ended { IfOk result (λ piece. piece ≡ [] → has_ended self.new ≡ true) }
+            MatchResult result (λ _. Consumes before after piece.new) (λ _. Keeps before after) }
+        ensures end { OnOk result (piece.new ≡ [] → IsAtEnd (R.remaining (reader_of self.new))) }
+        ensures ended { OnOk result (piece.new ≡ [] → has_ended self.new ≡ true) }
         ensures stays { has_ended self.old ≡ true → has_ended self.new ≡ true }
         ensures only_then { has_ended self.new ≡ true
-            → (has_ended self.old ≡ true) ⊎ IsOkAnd result (λ piece. piece ≡ []) }
+            → (has_ended self.old ≡ true) ⊎ IsOkAnd result (λ _. piece.new ≡ []) }
         ensures open { reading_is_done self.new ≡ false }
         ensures cause { HasReadCause (read_faults self.old) (read_faults self.new) result }
     {
         let size = MOST_MOVED.min(max as usize);
-        let Ok(mut buf) = vec![in alloc; 0u8; size] else {
+        let mut buf = taken_out(alloc, piece);
+        if buf.resize(size, 0).is_err() {
             return Err(IoFault::NoMemory);
-        };
+        }
         match self.inner.read(&mut buf) {
             Ok(count) => {
                 buf.truncate(count);
                 self.ended = self.ended || count == 0;
-                Ok(Octets::from_vec(buf))
+                *piece = Octets::from_vec(buf);
+                Ok(())
             }
             Err(_) => {
                 self.faults.raise();

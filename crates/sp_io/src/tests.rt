@@ -3,7 +3,7 @@ use crate::{
     Failed, IoFault, MemSalt, MemSink, MemSource, RandomSalt, ReadSource, Salt, Sink, Source,
     TakeFault, WriteSink, put_all, take_all,
 };
-use sp_base::NoMemory;
+use sp_base::{NoMemory, Octets};
 use std::alloc::Global;
 use std::cell::Cell;
 use std::io::{self, ErrorKind, Read, Write};
@@ -131,7 +131,8 @@ impl Write for Turns {
 #[test]
 fn reads_any_reader(rt: HostRuntime) -> Result<(), Fail> {
     let mut source = ReadSource::over(b"some bytes".as_slice());
-    let piece = source.take(rt.alloc(), 4)?;
+    let mut piece = Octets::none(rt.alloc());
+    source.take(rt.alloc(), &mut piece, 4)?;
     assert_eq!(rt; piece.slice(), b"some".as_slice());
     let rest = take_all(rt.alloc(), &mut source, 100)?;
     assert_eq!(rt; rest.slice(), b" bytes".as_slice());
@@ -177,10 +178,16 @@ fn writes_any_writer(rt: HostRuntime) {
 #[test]
 fn ends_and_errors(rt: HostRuntime) -> Result<(), Fail> {
     let mut source = MemSource::of(rt.alloc(), b"ab", &[1])?;
-    assert_eq!(rt; source.take(rt.alloc(), 1)?.slice(), b"a".as_slice());
-    assert_eq!(rt; source.take(rt.alloc(), 1).err(), Some(IoFault::Failed));
-    assert_eq!(rt; source.take(rt.alloc(), 9)?.slice(), b"b".as_slice());
-    assert!(rt; source.take(rt.alloc(), 9)?.is_empty());
+    let mut piece = Octets::of(rt.alloc(), b"before")?;
+    source.take(rt.alloc(), &mut piece, 1)?;
+    assert_eq!(rt; piece.slice(), b"a".as_slice());
+    let failed = source.take(rt.alloc(), &mut piece, 1);
+    assert_eq!(rt; failed, Err(IoFault::Failed));
+    assert!(rt; piece.is_empty());
+    source.take(rt.alloc(), &mut piece, 9)?;
+    assert_eq!(rt; piece.slice(), b"b".as_slice());
+    source.take(rt.alloc(), &mut piece, 9)?;
+    assert!(rt; piece.is_empty());
     source.done();
     assert_eq!(rt; IoFault::from(NoMemory), IoFault::NoMemory);
     assert_eq!(rt; TakeFault::from(NoMemory), TakeFault::NoMemory);

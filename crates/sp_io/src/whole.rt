@@ -37,9 +37,10 @@ pub fn take_all<S: Source>(alloc: Global, source: &mut S, most: u32) -> Result<O
     ensures open { S.is_done source.new ≡ false }
 {
     let mut text = Octets::none(alloc);
+    let mut piece = Octets::none(alloc);
     loop {
         let room = most as usize - text.len() + 1;
-        let piece = source.take(alloc, room.min(MOST_MOVED) as u32)?;
+        source.take(alloc, &mut piece, room.min(MOST_MOVED) as u32)?;
         if piece.is_empty() {
             return Ok(text);
         }

@@ -6,6 +6,7 @@ ghost use Rattle.sp_server.specs.Session.{outcome};
 ghost use Rattle.sp_server.specs.Stdio.{IsServed, is_read};
 
 use crate::session::{Session, Stop};
+use sp_base::Octets;
 use sp_io::{IoFault, Salt, Sink, Source};
 use std::alloc::Global;
 
@@ -62,12 +63,13 @@ fn serve<I: Source, O: Sink>(alloc: Global, source: &mut I, sink: &mut O) -> Res
     ensures sink { O.is_done sink.new ≡ false }
 {
     let mut session = Session::begin(alloc, sink)?;
+    let mut piece = Octets::none(alloc);
     loop {
-        let piece = match source.take(alloc, PIECE) {
-            Ok(piece) => piece,
+        match source.take(alloc, &mut piece, PIECE) {
+            Ok(()) => {}
             Err(IoFault::Failed) => return Ok(StdioEnd::InputFault),
             Err(IoFault::NoMemory) => return Err(Stop::NoMemory),
-        };
+        }
         if piece.is_empty() {
             return session.finish(sink);
         }

@@ -197,17 +197,19 @@ impl Source for Flood {
 
     ghost is_done = { λ s. s.done };
 
-    fn take(&mut self, alloc: Global, max: u32) -> Result<Octets, IoFault> {
+    fn take(&mut self, alloc: Global, piece: &mut Octets, max: u32) -> Result<(), IoFault> {
+        *piece = Octets::none(alloc);
         let frame = self.current();
         let (_, rest) = frame.split_at(self.at.min(frame.len()));
         let most = if self.given > 1 << 30 { 0 } else { max };
-        let (piece, _) = rest.split_at(rest.len().min(most as usize));
-        let piece = Octets::of(alloc, piece)?;
-        let at = self.at.saturating_add(piece.len());
-        self.at = if piece.len() == rest.len() { 0 } else { at };
-        self.given = self.given.saturating_add(piece.len() as u64);
+        let (first, _) = rest.split_at(rest.len().min(most as usize));
+        piece.extend(first)?;
+        let (count, is_whole) = (first.len(), first.len() == rest.len());
+        let at = self.at.saturating_add(count);
+        self.at = if is_whole { 0 } else { at };
+        self.given = self.given.saturating_add(count as u64);
         self.ended = self.ended || piece.is_empty();
-        Ok(piece)
+        Ok(())
     }
 
     fn done(&mut self) {

@@ -50,14 +50,15 @@ impl Source for Peer<'_> {
 
     ghost is_done = { λ s. s.done };
 
-    fn take(&mut self, alloc: Global, max: u32) -> Result<Octets, IoFault> {
+    fn take(&mut self, alloc: Global, piece: &mut Octets, max: u32) -> Result<(), IoFault> {
+        *piece = Octets::none(alloc);
         let (frame, before) = turn(self.calls);
         self.answered = self.answered && self.written.get() == before;
-        let (piece, _) = frame.split_at(frame.len().min(max as usize));
-        let piece = Octets::of(alloc, piece)?;
+        let (first, _) = frame.split_at(frame.len().min(max as usize));
+        piece.extend(first)?;
         self.calls = self.calls.saturating_add(1);
         self.ended = self.ended || piece.is_empty();
-        Ok(piece)
+        Ok(())
     }
 
     fn done(&mut self) {

@@ -2,8 +2,8 @@ use Rattle.std.proofs.Common.{◌≡◌, ◌+◌, ◌-◌, ◌≤◌, false, len
 use Rattle.std.specs.Io.KnownBytes.{Appends, Consumes}
 use Rattle.sp_io.proofs.whole.take_all.Given as goal
 
-abbrev pub invariant-loop-text : goal.invariant-loop-text
-invariant-loop-text g l =
+abbrev pub invariant-loop-piece : goal.invariant-loop-piece
+invariant-loop-piece g l =
     let s = g.S.Source in
     record {
       few : length l.text ≤ l.most;
@@ -13,5 +13,5 @@ invariant-loop-text g l =
       later : s.faults l.fn.source ≤ s.faults l.source;
     }
 
-abbrev pub decreases-loop-text : goal.decreases-loop-text
-decreases-loop-text g l = l.most + 1 - length l.text
+abbrev pub decreases-loop-piece : goal.decreases-loop-piece
+decreases-loop-piece g l = l.most + 1 - length l.text

@@ -31,7 +31,7 @@ returns-then-is_empty-clause-serves g c = λ drawn.
     let i = g.I.Source in
     let o = g.O.Sink in
     let none = c.is_empty.ensures.0 c.if-is_empty.true in
-    finished c.loop-piece.session c.finish.result c.in-Ok.piece (i.left c.args.source.now) (i.left c.loop-piece.source) (i.left c.take.new.self) (i.passed c.args.source.now) (i.passed c.loop-piece.source) (i.passed c.take.new.self)
+    finished c.loop-piece.session c.finish.result c.take.new.piece (i.left c.args.source.now) (i.left c.loop-piece.source) (i.left c.take.new.self) (i.passed c.args.source.now) (i.passed c.loop-piece.source) (i.passed c.take.new.self)
     (o.held c.args.sink.now) (o.held c.loop-piece.sink) (o.held c.finish.new.sink) drawn c.loop-piece.invariant.so none c.in-Ok.ensures.left c.in-Ok.ensures.passed (c.in-Ok.ensures.end none) c.finish.ensures.ok c.finish.ensures.err
 
 pub returns-in_err-end-clause-serves : goal.returns-in_err-end-clause-serves
@@ -43,7 +43,7 @@ returns-in_err-end-clause-serves g c = λ drawn.
     let octets = c.slice.ensures.fits in
     any_stop (IsServed (told (i.left c.args.source.now) (i.passed c.args.source.now) (o.held c.args.sink.now) drawn) (told (i.left c.take.new.self) (i.passed c.take.new.self) (o.held c.receive.new.sink) drawn))
     c.from_residual-in_err-end.result c.from_residual-in_err-end.ensures.0
-    (λ s. cut c.loop-piece.session s c.in-Ok.piece (i.left c.args.source.now) (i.left c.loop-piece.source) (i.left c.take.new.self) (i.passed c.args.source.now) (i.passed c.loop-piece.source) (i.passed c.take.new.self)
+    (λ s. cut c.loop-piece.session s c.take.new.piece (i.left c.args.source.now) (i.left c.loop-piece.source) (i.left c.take.new.self) (i.passed c.args.source.now) (i.passed c.loop-piece.source) (i.passed c.take.new.self)
     (o.held c.args.sink.now) (o.held c.loop-piece.sink) (o.held c.receive.new.sink) drawn so c.in-Ok.ensures.left c.in-Ok.ensures.passed octets part)
 
 pub returns-in-Some-clause-serves : goal.returns-in-Some-clause-serves
@@ -53,14 +53,14 @@ returns-in-Some-clause-serves g c = λ drawn.
     let so = c.loop-piece.invariant.so in
     let ends = at_some _ c.in_ok-end.field-0 c.in-Some.end c.in-Some.is c.in_ok-end.ensures.ends so.0 so.1 so.2 in
     let behind = subst (λ piece. IsServedBehind c.in-Some.end (so.0 ++ piece) so.1 (o.held c.loop-piece.sink) (o.held c.receive.new.sink)) c.slice.ensures.value ends in
-    broken c.loop-piece.session c.in-Some.end c.in-Ok.piece (i.left c.args.source.now) (i.left c.loop-piece.source) (i.left c.take.new.self) (i.passed c.args.source.now) (i.passed c.loop-piece.source) (i.passed c.take.new.self)
+    broken c.loop-piece.session c.in-Some.end c.take.new.piece (i.left c.args.source.now) (i.left c.loop-piece.source) (i.left c.take.new.self) (i.passed c.args.source.now) (i.passed c.loop-piece.source) (i.passed c.take.new.self)
     (o.held c.args.sink.now) (o.held c.loop-piece.sink) (o.held c.receive.new.sink) drawn so c.in-Ok.ensures.left c.in-Ok.ensures.passed (at_some _ c.in_ok-end.field-0 c.in-Some.end c.in-Some.is c.in_ok-end.ensures.unread) behind
 
 pub loop-piece-smaller : goal.loop-piece-smaller
 loop-piece-smaller g c =
     let so = c.loop-piece.invariant.so in
     let on = at_none c.in_ok-end.field-0 c.in_default.not-Some c.in_ok-end.ensures.goes_on so.0 so.1 so.2 in
-    let some = some_piece c.in-Ok.piece c.is_empty.result c.is_empty.ensures c.if-is_empty.false in
+    let some = some_piece c.take.new.piece c.is_empty.result c.is_empty.ensures c.if-is_empty.false in
     less_to_come c.loop-piece.session c.receive.new.self so.0 c.slice.result.now so.1 (so.1 ++ on.0) so.2 on.2 (rw (c.slice.ensures.value) some)
 
 pub loop-piece-preserved : goal.loop-piece-preserved
@@ -74,7 +74,7 @@ loop-piece-preserved g c =
     let sunk = c.loop-piece.invariant.sunk in
     let put = c.in_ok-end.ensures.cause.later in
     record {
-      so = goes_on c.loop-piece.session c.receive.new.self c.in-Ok.piece (i.left c.args.source.now) (i.left c.loop-piece.source) (i.left c.take.new.self) (i.passed c.args.source.now) (i.passed c.loop-piece.source) (i.passed c.take.new.self)
+      so = goes_on c.loop-piece.session c.receive.new.self c.take.new.piece (i.left c.args.source.now) (i.left c.loop-piece.source) (i.left c.take.new.self) (i.passed c.args.source.now) (i.passed c.loop-piece.source) (i.passed c.take.new.self)
           (o.held c.args.sink.now) (o.held c.loop-piece.sink) (o.held c.receive.new.sink) so c.in-Ok.ensures.left c.in-Ok.ensures.passed
           (on.0, on.1, subst (λ piece. IsAt c.receive.new.self None (so.0 ++ piece) (so.1 ++ on.0)) c.slice.ensures.value on.2);
       sourced = omega arith;

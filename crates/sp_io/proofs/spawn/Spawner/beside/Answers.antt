@@ -1,5 +1,4 @@
-use Rattle.std.proofs.Common.{rules, arith, ◌≡◌, ◌∙◌, ap, sym, subst, refl, ◌≤◌, OnErr}
-use Rattle.sp_io.specs.Causes.{HasCause, Rose}
+use Rattle.std.proofs.Common.{arith}
 use Rattle.sp_io.proofs.Known.{rose_later}
 use Rattle.sp_io.proofs.spawn.Spawner.beside.Goals as goal
 
