@@ -1,10 +1,11 @@
 ghost use Rattle.std.specs.Prelude.{◌≡◌, ◌<◌, ◌≤◌, ◌↔◌, [], ◌∷◌, length, take, min, IfOk, OnErr, IfSome, IfNone, IsTrue, IsFalse, Some};
 ghost use Rattle.socket_model.specs.declared.limits.TheConstants.{LETTERS};
 ghost use Rattle.socket_model.specs.Channel.{Bytes, Letters, held, room, with_put, with_taken, bytes_in, letters_in, IsBytes, IsLetters, fresh_track, count_held, shut_channel, ends_of};
+ghost use Rattle.socket_model.specs.Calls.{new_channel};
 
 use crate::post::Post;
 use crate::stream::Stream;
-use socket_model::{How, Letter};
+use socket_model::{How, Letter, SockKind};
 use sp_base::{NoMemory, Octets};
 use std::alloc::Global;
 use std::marker::Model;
@@ -48,6 +49,16 @@ impl Chan {
         Ok(Chan {
             of: Kind::Letters(Post::fresh(alloc)?),
         })
+    }
+
+    /// A new channel for sockets of a kind. The only error is want of memory.
+    pub(crate) fn new(alloc: Global, kind: SockKind) -> Result<Chan, NoMemory>
+        ensures { IfOk result (λ chan. chan ≡ new_channel kind) }
+    {
+        match kind {
+            SockKind::Stream => Chan::bytes(alloc),
+            SockKind::Datagram => Chan::letters(alloc),
+        }
     }
 
     /// Whether it is a channel of bytes; else it is one of letters.

@@ -2,10 +2,11 @@ ghost use Rattle.std.specs.Prelude.{◌≡◌, ◌+◌, ◌<◌, ◌≤◌, ◌�
 ghost use Rattle.sp_base.specs.Table.{at};
 ghost use Rattle.socket_model.specs.declared.limits.TheConstants.{LETTERS};
 ghost use Rattle.socket_model.specs.Channel.{held, room, with_put, with_taken, bytes_in, letters_in, IsBytes, IsLetters, count_held, ends_of, shut_end, set_bytes, set_letters, with_bytes, with_letters};
+ghost use Rattle.socket_model.specs.Calls.{two_channels};
 
 use crate::chan::Chan;
 use crate::ledger::Ledger;
-use socket_model::{ChanNo, How, Letter};
+use socket_model::{ChanNo, How, Letter, SockKind};
 use sp_base::{NoMemory, Octets};
 use std::alloc::Global;
 use std::marker::Model;
@@ -49,16 +50,20 @@ impl Chans {
         Ok(ChanNo(self.slots.add(chan)))
     }
 
-    /// Two new channels of bytes. An error leaves all as it was: want of memory, or of numbers, which
-    /// end at 2^64 - 1.
-    pub fn pair(&mut self, alloc: Global) -> Result<(ChanNo, ChanNo), NoMemory>
+    /// Two new channels for sockets of a kind. An error leaves all as it was: want of memory, or of
+    /// numbers, which end at 2^64 - 1.
+    pub(crate) fn pair(
+        &mut self,
+        alloc: Global,
+        kind: SockKind,
+    ) -> Result<(ChanNo, ChanNo), NoMemory>
         ensures numbers { IfOk result (λ pair. (pair.0.0 ≡ length self.old)
             × (pair.1.0 ≡ length self.old + 1)) }
-        ensures made { IfOk result (λ _. self.new ≡ with_bytes (with_bytes self.old)) }
+        ensures made { IfOk result (λ _. self.new ≡ two_channels kind self.old) }
         ensures err { OnErr result (self.new ≡ self.old) }
     {
-        let first = Chan::bytes(alloc)?;
-        let second = Chan::bytes(alloc)?;
+        let first = Chan::new(alloc, kind)?;
+        let second = Chan::new(alloc, kind)?;
         self.slots.reserve(2)?;
         let first = self.slots.add(first);
         let second = self.slots.add(second);
@@ -179,17 +184,20 @@ impl Chans {
         self.slots.value_mut(c.0).fetch()
     }
 
-    /// Shuts an end of a channel, or both. With its second end a channel is gone.
-    #[tactic(auto, using(crate::proofs::TableLemmas::set_again))]
+    /// Shuts an end of a channel, or both. With its second end a channel is gone; where there is no
+    /// channel, all stays as it was.
+    #[tactic(auto, using(crate::proofs::TableLemmas::set_again, crate::proofs::TableLemmas::set_none))]
     pub fn shut(&mut self, c: ChanNo, how: How)
-        requires { IsSome (at self.old c.0) }
         ensures { self.new ≡ shut_end self.old c.0 how }
     {
+        if self.slots.get(c.0).is_none() {
+            return;
+        }
         let chan = self.slots.value_mut(c.0);
         chan.shut(how);
         let (reading, writing) = chan.ends();
         if reading && writing {
-            self.slots.remove(c.0);
+            let _ = self.slots.take(c.0);
         }
     }
 }

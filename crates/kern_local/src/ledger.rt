@@ -104,12 +104,13 @@ impl<T> Ledger<T> {
         }
     }
 
-    /// Takes a value away, if it is there. Its number stays used.
-    pub(crate) fn remove(&mut self, number: u64)
-    where
-        T: Drop,
-        ensures { self.new ≡ record self.old { items = slice_set self.old.items number None } }
+    /// Takes the value of a number away; None where there is none. The number stays used.
+    pub(crate) fn take(&mut self, number: u64) -> Option<T>
+        ensures value { result ≡ at self.old.items number }
+        ensures taken { self.new ≡ record self.old {
+          items = slice_set self.old.items number None;
+        } }
     {
-        let _ = self.entries.remove(&number);
+        self.entries.remove(&number)
     }
 }

@@ -1,4 +1,4 @@
-//! Channels of bytes and of letters, each with all that it holds.
+//! Channels of bytes and of letters, and the sockets that are joined by them.
 #![tactic(auto)]
 
 mod chan;
@@ -8,8 +8,14 @@ mod ledger;
 mod pipes;
 mod post;
 mod rulings;
+mod sock;
+mod sock_rulings;
+#[cfg(test)]
+mod socket_tests;
+mod socks;
 mod stream;
 #[cfg(test)]
 mod tests;
 
 pub use chans::Chans;
+pub use socks::Socks;

@@ -1,7 +1,7 @@
 // What calls on channels come to, and what channels give, worked out by hand.
 use crate::Chans;
 use crate::rulings::{least_of_pipe, least_of_stream, put_ruling, take_ruling};
-use socket_model::{Address, ChanNo, How, LETTERS, Letter, Ruling};
+use socket_model::{Address, ChanNo, How, LETTERS, Letter, Ruling, SockKind};
 use sp_base::{Errno, Octets};
 use std::alloc::Global;
 use std::test::Fail;
@@ -95,7 +95,7 @@ fn bytes_come_in_order(rt: HostRuntime) -> Result<(), Fail> {
 fn a_channel_goes_with_its_second_end(rt: HostRuntime) -> Result<(), Fail> {
     let mut chans = Chans::fresh(rt.alloc());
     assert_eq!(rt; chans.stream(rt.alloc())?, ChanNo(0));
-    let (c, d) = chans.pair(rt.alloc())?;
+    let (c, d) = chans.pair(rt.alloc(), SockKind::Stream)?;
     assert_eq!(rt; (c, d), (ChanNo(1), ChanNo(2)));
     assert!(rt; chans.holds_bytes(c));
     assert_eq!(rt; chans.shut_ends(c), (false, false));

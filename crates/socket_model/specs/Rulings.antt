@@ -1,5 +1,6 @@
 -- What a call on a channel comes to, and what a poll tells of a pipe's ends.
-use Rattle.std.specs.Prelude.{ℕ, ◌==◌, nat_le, Bool, false, not, length, min, if◌then◌else◌}
+use Rattle.std.specs.Prelude.{ℕ, ◌==◌, nat_le, Bool, false, not, length, min, Option, None, Some, if◌then◌else◌}
+use Rattle.sp_base.specs.declared.errno.Errno.{Errno}
 use Rattle.sp_base.specs.declared.errno.Errno.TheVariants.{Epipe}
 use Rattle.socket_model.specs.declared.limits.TheConstants.{STREAM_BYTES, LETTERS, PIPE_WHOLE}
 use Rattle.socket_model.specs.declared.ruling.Ready.{Ready}
@@ -12,6 +13,11 @@ abbrev pub IfGoes : Ruling → (ℕ → Type 0) → Type 0
 IfGoes (Refused e) holds = Unit {0}
 IfGoes Waits holds = Unit {0}
 IfGoes (Goes n) holds = holds n
+
+-- an error that comes first, where there is one
+abbrev pub by_refusal : Option Errno → Ruling → Ruling
+by_refusal None ruling = ruling
+by_refusal (Some e) ruling = Refused e
 
 -- n bytes are to be written where `free` fit, and it waits until `least` of them do
 unfoldable pub put_ruling : Bool → ℕ → ℕ → ℕ → Ruling
@@ -43,11 +49,11 @@ take_ruling count unwritten n =
     else if unwritten then Goes 0
     else Waits
 
--- a letter is to be put where so many are held
-unfoldable pub post_ruling : ℕ → Ruling
-post_ruling count =
+-- a letter of n bytes is to be put where so many are held
+unfoldable pub post_ruling : ℕ → ℕ → Ruling
+post_ruling count n =
     if nat_le LETTERS count then Waits
-    else Goes 0
+    else Goes n
 
 -- a letter is to be taken where so many are held
 unfoldable pub fetch_ruling : ℕ → Ruling

@@ -10,6 +10,6 @@ mod ruling;
 
 pub use address::{Address, Family, SockKind};
 pub use letter::Letter;
-pub use limits::{LETTER_BYTES, LETTERS, PIPE_WHOLE, STREAM_BYTES};
+pub use limits::{BACKLOG, LETTER_BYTES, LETTERS, PIPE_WHOLE, STREAM_BYTES};
 pub use numbers::{ChanNo, SockNo};
 pub use ruling::{How, Ready, Ruling, SockFault};

@@ -11,3 +11,6 @@ pub const LETTER_BYTES: u64 = 8_192;
 
 /// A write of so many bytes or fewer goes into a pipe whole, also where it may not wait.
 pub const PIPE_WHOLE: u64 = 512;
+
+/// How many connections wait at a listening socket at the most.
+pub const BACKLOG: u64 = 16;

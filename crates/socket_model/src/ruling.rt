@@ -1,4 +1,7 @@
-use sp_base::Errno;
+ghost use Rattle.std.specs.Prelude.{◌≡◌};
+ghost use Rattle.socket_model.specs.declared.ruling.SockFault.TheVariants as fault;
+
+use sp_base::{Errno, NoMemory};
 
 /// Which ends are shut: the one that is read from, the one that is written to, or both.
 #[derive(Clone, Copy, Debug, PartialEq, Eq)]
@@ -28,6 +31,14 @@ pub enum SockFault {
     NotReady,
     /// Memory was refused.
     NoMemory,
+}
+
+impl From<NoMemory> for SockFault {
+    ghost from_gives = { λ _ made. made ≡ fault.NoMemory };
+
+    fn from(_e: NoMemory) -> SockFault {
+        SockFault::NoMemory
+    }
 }
 
 /// What a poll tells of an end of a pipe or of a socket.
