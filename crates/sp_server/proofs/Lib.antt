@@ -8,3 +8,5 @@ pub mod RunLaws
 pub mod EndLaws
 pub mod Outs
 pub mod RunsLaws
+pub mod Refusals
+pub mod Told

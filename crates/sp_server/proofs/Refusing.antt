@@ -147,7 +147,7 @@ had_memory c r m' journal e (next ∷ later) grown who may = by_test (next.0 == 
         let call : next ≡ r = ap (λ (n : ℕ). let no : ReqNo = record { 0 = n } in no) number in
         absurd (new_last (Request c next) journal e (who ∙ ap (Request c) (sym call)) (subst (λ (j : List Entry). IsNew (Request c next) j) grown may))
 
-keeps_refused : (later : List ReqNo) (answer : Reply) → is_refused answer ≡ false → refused_behind later answer ≡ later
+pub keeps_refused : (later : List ReqNo) (answer : Reply) → is_refused answer ≡ false → refused_behind later answer ≡ later
 keeps_refused [] answer kept = refl
 keeps_refused (next ∷ later) answer kept = rw kept refl
 

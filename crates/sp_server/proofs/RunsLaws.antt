@@ -18,13 +18,13 @@ use Rattle.hub_model.specs.Machine.{played}
 use Rattle.hub_model.specs.State.{Machine, fresh_machine}
 use Rattle.hub_model.specs.Run.{Exchange, Runs}
 use Rattle.sp_server.specs.Serving.{Server, server_of, reply_to, after, has_memory, after_work, worked, performs, AreRounds, HandsOut, is_out, taken_frame, handed_out}
-use Rattle.sp_server.specs.Stdio.{connection, at_start, salt_for, salts_behind, AnswersFrame, Answers, IsStdioOut}
+use Rattle.sp_server.specs.Stdio.{connection, at_start, salt_for, salts_behind, AnswersFrame, Answers, IsAnswered, IsStdioOut}
 
 -- a run of the machine, and the frames that it hands out
-record Leads (old : Machine) (frames : List Frame) (new : Machine) : Type 0 where
-  exchanges : List Exchange
-  runs : Runs old exchanges new
-  hands : handed_out exchanges ≡ frames
+pub record Leads (old : Machine) (frames : List Frame) (new : Machine) : Type 0 where
+  pub exchanges : List Exchange
+  pub runs : Runs old exchanges new
+  pub hands : handed_out exchanges ≡ frames
 
 no_step : (m : Machine) → Leads m [] m
 no_step m = record { exchanges = []; runs = refl; hands = refl }
@@ -95,31 +95,51 @@ answer_leads s f salt text n is =
     let out = hands_lead is.worked.machine connection is.frames n.machine is.hands in
     leads_then s.machine is.worked.machine n.machine [] is.frames (leads_then s.machine came is.worked.machine [] [] comes worked) out
 
-answers_lead : (frames : List Frame) (s : Server) (salts text : List ℕ) (n : Server) → Answers s frames salts text n → (out : List Frame) × Leads s.machine out n.machine × (text ≡ flat_map spelling out)
-answers_lead [] s salts text n is = ([], subst (λ (x : Server). Leads s.machine [] x.machine) (sym is.1) (no_step s.machine), is.0)
+-- the frames that are handed out for frames
+abbrev pub out_frames : (frames : List Frame) (s : Server) (salts text : List ℕ) (n : Server) → Answers s frames salts text n → List Frame
+out_frames [] s salts text n is = []
+out_frames (f ∷ frames) s salts text n is = is.3.frames ++ out_frames frames is.0 (salts_behind f salts) is.2 n is.4
+
+answers_lead : (frames : List Frame) (s : Server) (salts text : List ℕ) (n : Server) (is : Answers s frames salts text n)
+    → Leads s.machine (out_frames frames s salts text n is) n.machine × (text ≡ flat_map spelling (out_frames frames s salts text n is))
+answers_lead [] s salts text n is = (subst (λ (x : Server). Leads s.machine [] x.machine) (sym is.1) (no_step s.machine), is.0)
 answers_lead (f ∷ frames) s salts text n is =
     let one = is.3 in
+    let others = out_frames frames is.0 (salts_behind f salts) is.2 n is.4 in
     let rest = answers_lead frames is.0 (salts_behind f salts) is.2 n is.4 in (
-      one.frames ++ rest.0,
-      leads_then s.machine is.0.machine n.machine one.frames rest.0 (answer_leads s f (salt_for f salts) is.1 is.0 one) rest.1,
-      is.5 ∙ ap (λ (t : List ℕ). t ++ is.2) one.spelled ∙ ap (λ (t : List ℕ). flat_map spelling one.frames ++ t) rest.2 ∙ sym (flat_map-append spelling one.frames rest.0),
+      leads_then s.machine is.0.machine n.machine one.frames others (answer_leads s f (salt_for f salts) is.1 is.0 one) rest.0,
+      is.5 ∙ ap (λ (t : List ℕ). t ++ is.2) one.spelled ∙ ap (λ (t : List ℕ). flat_map spelling one.frames ++ t) rest.1 ∙ sym (flat_map-append spelling one.frames others),
     )
 
--- what is written for input that ends is what a run from a fresh machine hands out
+-- the frames that are handed out for the whole frames of input
+abbrev pub answering : (input salts : List ℕ) (refused : List ReqNo) (text rest : List ℕ) (m : Machine) → IsAnswered input salts refused text rest m → List Frame
+answering input salts refused text rest m is = out_frames is.frames (server_of at_start refused) salts is.body (server_of m []) is.answers
+
+-- what is written for the whole frames of input is what a run from a fresh machine hands out
+pub answered_leads : (input salts : List ℕ) (refused : List ReqNo) (text rest : List ℕ) (m : Machine) (is : IsAnswered input salts refused text rest m)
+    → Leads (fresh_machine Four) (answering input salts refused text rest m is) m × (text ≡ banner ++ flat_map spelling (answering input salts refused text rest m is))
+answered_leads input salts refused text rest m is =
+    let answers = answers_lead is.frames (server_of at_start refused) salts is.body (server_of m []) is.answers in
+    let opens = one_step true (fresh_machine Four) (event.Opened connection) [] refl in
+    (leads_then (fresh_machine Four) at_start m [] (answering input salts refused text rest m is) opens answers.0, is.begins ∙ ap (λ (t : List ℕ). banner ++ t) answers.1)
+
+-- and so is what is written for input that ends
+pub out_leads : (input salts : List ℕ) (refused : List ReqNo) (how : Finish) (offset : ℕ) (text : List ℕ) (out : IsStdioOut input salts refused how offset text)
+    → Leads (fresh_machine Four) (answering input salts refused out.front out.rest out.before out.answered ++ out.frames) out.last
+    × (text ≡ banner ++ flat_map spelling (answering input salts refused out.front out.rest out.before out.answered ++ out.frames))
+out_leads input salts refused how offset text out =
+    let frames = answering input salts refused out.front out.rest out.before out.answered in
+    let first = answered_leads input salts refused out.front out.rest out.before out.answered in
+    let ends = one_step true out.before (event.Ended connection how) [] refl in
+    let hands = hands_lead (after out.before (event.Ended connection how)) connection out.frames out.last out.hands in
+    let second = leads_then out.before (after out.before (event.Ended connection how)) out.last [] out.frames ends hands in (
+      leads_then (fresh_machine Four) out.before out.last frames out.frames first.0 second,
+      out.whole ∙ ap (λ (t : List ℕ). t ++ flat_map spelling out.frames) first.1 ∙ append_assoc banner (flat_map spelling frames) (flat_map spelling out.frames)
+          ∙ ap (λ (t : List ℕ). banner ++ t) (sym (flat_map-append spelling frames out.frames)),
+    )
+
 pub out_runs : (input salts : List ℕ) (refused : List ReqNo) (how : Finish) (offset : ℕ) (text : List ℕ) → IsStdioOut input salts refused how offset text
     → (exchanges : List Exchange) × (last : Machine) × Runs (fresh_machine Four) exchanges last × (text ≡ banner ++ flat_map spelling (handed_out exchanges))
 out_runs input salts refused how offset text out =
-    let answers = answers_lead out.answered.frames (server_of at_start refused) salts out.answered.body (server_of out.before []) out.answered.answers in
-    let opens = one_step true (fresh_machine Four) (event.Opened connection) [] refl in
-    let ends = one_step true out.before (event.Ended connection how) [] refl in
-    let hands = hands_lead (after out.before (event.Ended connection how)) connection out.frames out.last out.hands in
-    let first = leads_then (fresh_machine Four) at_start out.before [] answers.0 opens answers.1 in
-    let second = leads_then out.before (after out.before (event.Ended connection how)) out.last [] out.frames ends hands in
-    let all = leads_then (fresh_machine Four) out.before out.last answers.0 out.frames first second in (
-      all.exchanges,
-      out.last,
-      all.runs,
-      out.whole ∙ ap (λ (t : List ℕ). t ++ flat_map spelling out.frames) (out.answered.begins ∙ ap (λ (t : List ℕ). banner ++ t) answers.2)
-          ∙ append_assoc banner (flat_map spelling answers.0) (flat_map spelling out.frames)
-          ∙ ap (λ (t : List ℕ). banner ++ t) (sym (flat_map-append spelling answers.0 out.frames) ∙ ap (flat_map spelling) (sym all.hands)),
-    )
+    let all = out_leads input salts refused how offset text out in
+    (all.0.exchanges, out.last, all.0.runs, all.1 ∙ ap (λ (fs : List Frame). banner ++ flat_map spelling fs) (sym all.0.hands))

@@ -1,8 +1,11 @@
 -- How the open calls of a connection are worked, and its frames handed out.
 use Rattle.std.specs.Prelude.{◌≡◌, ℕ, ◌==◌, Bool, true, false, not, ◌||◌, List, [], ◌∷◌, ◌++◌, None, Some, if◌then◌else◌}
+use Rattle.std.specs.List.{flat_map}
 use Rattle.sp_base.specs.declared.names.ConnNo.{ConnNo}
 use Rattle.sp_base.specs.declared.names.ReqNo.{ReqNo}
 use Rattle.sp_base.specs.declared.names.SpError.TheVariants.{Memory}
+use Rattle.sp_frames.specs.declared.frame.Body.{Body}
+use Rattle.sp_frames.specs.declared.frame.Body.TheVariants as body
 use Rattle.sp_frames.specs.declared.frame.Frame.{Frame}
 use Rattle.sp_frames.specs.Grammar.{spelling}
 use Rattle.hub_model.specs.declared.event.Event.{Event}
@@ -108,6 +111,15 @@ HandsOutOne m c text false m' text' = (is_out (reply_to m (Take c)) ≡ false) �
 abbrev pub taken_frame : Event → Reply → List Frame
 taken_frame (Take c) (Out f) = f ∷ []
 taken_frame _ _ = []
+
+-- the number of the call that a frame refuses for memory, where it refuses one
+abbrev pub refused_in : ReqNo → Body → List ReqNo
+refused_in r (body.Refused kind Memory) = r ∷ []
+refused_in r _ = []
+
+-- the numbers of the calls that frames refuse for memory, in order
+abbrev pub refusals : List Frame → List ReqNo
+refusals frames = flat_map (λ f. refused_in f.number f.body) frames
 
 -- the frames that a run hands out
 abbrev pub handed_out : List Exchange → List Frame

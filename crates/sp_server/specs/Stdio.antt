@@ -17,10 +17,11 @@ use Rattle.sp_frames.specs.declared.version.Version.TheVariants.{Four}
 use Rattle.hub_model.specs.declared.event.Event.TheVariants as event
 use Rattle.hub_model.specs.declared.event.Finish.{Finish}
 use Rattle.hub_model.specs.declared.event.Finish.TheVariants as finish
+use Rattle.hub_model.specs.Run.{Exchange, Runs}
 use Rattle.hub_model.specs.State.{Machine, fresh_machine}
 use Rattle.sp_server.specs.declared.stdio.StdioEnd.{StdioEnd}
 use Rattle.sp_server.specs.declared.stdio.StdioEnd.TheVariants.{Clean, BadAt, InsideAt, TooMuch, InputFault, OutputFault, SaltFault, NoMemory}
-use Rattle.sp_server.specs.Serving.{Server, server_of, after, AreRounds, HandsOut}
+use Rattle.sp_server.specs.Serving.{Server, server_of, after, AreRounds, HandsOut, refusals, handed_out}
 
 -- standard input and output are the one connection of a server of their own
 abbrev pub connection : ConnNo
@@ -114,6 +115,15 @@ pub record IsCutOff (input salts : List ℕ) (refused : List ReqNo) (text : List
   pub count : ℕ
   pub out : IsStdioOut input salts refused how offset whole
   pub cut : text ≡ take count whole
+
+-- ---- the calls that are refused
+
+-- a text tells which calls were refused for memory: it is the banner and the frames that a run of the server's machine hands out, and just
+-- these calls are refused for memory in them, in order
+abbrev pub IsToldBy : List ReqNo → List ℕ → Type 0
+IsToldBy refused text =
+    (exchanges : List Exchange) × (last : Machine) × Runs (fresh_machine Four) exchanges last
+    × (text ≡ banner ++ flat_map spelling (handed_out exchanges)) × (refusals (handed_out exchanges) ≡ refused)
 
 -- ---- the whole run
 

@@ -12,7 +12,7 @@ ghost use Rattle.hub_model.specs.Run.{Exchange, Runs};
 ghost use Rattle.sp_server.specs.declared.stdio.StdioEnd.{StdioEnd};
 ghost use Rattle.sp_server.specs.declared.stdio.StdioEnd.TheVariants as end;
 ghost use Rattle.sp_server.specs.Serving.{handed_out};
-ghost use Rattle.sp_server.specs.Stdio.{IsStdioOut, is_decided, Ends, Serves};
+ghost use Rattle.sp_server.specs.Stdio.{IsStdioOut, IsUnended, IsToldBy, is_decided, Ends, Serves};
 
 /// The input, the salts and the calls that are refused for memory decide a run's end and what is written, however much of the input is
 /// taken; a fault of the outside and want of memory excepted.
@@ -32,6 +32,15 @@ pub fn one_run()
         → (exchanges : List Exchange) × (last : Machine)
         × Runs (fresh_machine Four) exchanges last
         × (text ≡ banner ++ flat_map spelling (handed_out exchanges)) }
+{}
+
+/// The calls that are refused for memory are just those whose error frames are written, in order: where the input ends, and where it
+/// goes on behind its whole frames. So the text, which they decide with the input, tells them.
+pub fn refused_calls()
+    ensures ended { (input salts : List ℕ) (refused : List ReqNo) (how : Finish) (offset : ℕ)
+        (text : List ℕ) → IsStdioOut input salts refused how offset text → IsToldBy refused text }
+    ensures unended { (input salts : List ℕ) (refused : List ReqNo) (text : List ℕ)
+        → IsUnended input salts refused text → IsToldBy refused text }
 {}
 
 /// Bytes that come behind a frame's fault, or behind more than is looked at, change nothing.

@@ -6,5 +6,5 @@ mod serving;
 mod session;
 mod stdio;
 
-pub use laws::{later_bytes, one_end, one_run};
+pub use laws::{later_bytes, one_end, one_run, refused_calls};
 pub use stdio::{StdioEnd, serve_stdio};
