@@ -1,8 +1,10 @@
 pub mod TrackLemmas
 pub mod ListedLaws
 pub mod TableLemmas
+pub mod NameLemmas
 pub mod ChannelLemmas
 pub mod SoundLemmas
 pub mod SocketLemmas
 pub mod JoinLemmas
 pub mod EndLemmas
+pub mod WaitLemmas

@@ -5,3 +5,4 @@ pub mod LedgerLends
 pub mod Queues
 pub mod SocketNumbers
 pub mod Keeps
+pub mod Names

@@ -5,6 +5,9 @@ mod chan;
 mod chans;
 mod ends;
 mod ledger;
+#[cfg(test)]
+mod name_tests;
+mod names;
 mod pipes;
 mod post;
 mod rulings;
@@ -18,4 +21,5 @@ mod stream;
 mod tests;
 
 pub use chans::Chans;
+pub use names::Names;
 pub use socks::Socks;

@@ -51,7 +51,7 @@ fn answers(
         Step::Say(_, text, answer) => {
             Ok(socks.send(alloc, s, text.as_bytes(), None, false) == answer)
         }
-        Step::Hear(_, max, None) => Ok(socks.receive_ruling(s, max) == Ruling::Waits),
+        Step::Hear(_, max, None) => Ok(socks.receive_waits(s, max)),
         Step::Hear(_, max, Some(text)) => match socks.receive(alloc, s, max) {
             Ok(letter) => Ok(letter.bytes.slice() == text.as_bytes()),
             Err(_) => Ok(false),
@@ -117,6 +117,14 @@ fn a_full_backlog_refuses(rt: HostRuntime) -> Result<(), Fail> {
     socks.set_address(there, Address::Path(Octets::of(rt.alloc(), b"/s")?));
     assert!(rt; socks.is_live(there));
     assert_eq!(rt; socks.listen(there, 2), Ok(()));
+    assert!(rt; socks.is_live(there));
+    assert!(rt; socks.accept_waits(there));
+    assert_eq!(rt; socks.listen_ruling(there), Ruling::Goes(0));
+    assert_eq!(rt;
+        socks.shutdown_ruling(there),
+        Ruling::Refused(Errno::Enotconn)
+    );
+    assert!(rt; !socks.send_waits(there, 5, None, true));
     for answer in [Ok(()), Ok(()), FULL] {
         let s = socks.make(rt.alloc(), Family::Local, SockKind::Stream)?;
         assert!(rt; socks.is_live(s) && socks.is_live(there));

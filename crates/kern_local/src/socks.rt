@@ -8,6 +8,7 @@ mod end;
 mod make;
 mod receive;
 mod send;
+mod waits;
 
 use crate::chans::Chans;
 use crate::ledger::Ledger;

@@ -74,7 +74,7 @@ fn send_in(
 }
 
 /// Whether the target that is named is a stream, and the channel that a letter goes to.
-fn target(socks: &Ledger<Sock>, sock: &Sock, to: Option<SockNo>) -> (bool, Option<u64>)
+pub(crate) fn target(socks: &Ledger<Sock>, sock: &Sock, to: Option<SockNo>) -> (bool, Option<u64>)
     requires { IsThere socks.now.items to }
     ensures stream { result.0 ≡ is_to_stream socks.now.items (number_of to) }
     ensures channel { result.1 ≡ letter_channel socks.now.items sock.now (number_of to) }
