@@ -1,5 +1,5 @@
 -- What a feed leaves, in words of all bytes fed.
-use Rattle.std.proofs.Common.{◌≡◌, ◌≢◌, ◌⊎◌, inl, inr, ℕ, List, [], ◌++◌, Option, None, Result, Ok, Err, refl, sym, ap, subst, ◌∙◌, append_assoc, arith}
+use Rattle.std.proofs.Common.{◌≡◌, ◌≢◌, ◌⊎◌, inl, inr, ℕ, List, [], ◌++◌, None, Result, Ok, Err, refl, sym, ap, subst, ◌∙◌, append_assoc, arith}
 use Rattle.std.specs.List.{flat_map}
 use Rattle.sp_frames.specs.declared.fault.FrameFault.{FrameFault}
 use Rattle.sp_frames.specs.declared.fault.FrameFault.TheVariants as fault
@@ -10,18 +10,9 @@ use Rattle.sp_frames.specs.Faults.{HasFault, NoFault}
 use Rattle.sp_frames.specs.Framing.{Held, bytes_of, Follows, IsStop, IsFramed}
 use Rattle.sp_frames.specs.declared.reading.Step.TheVariants.{Partial}
 use Rattle.sp_frames.specs.Reading.{step_of}
-use Rattle.sp_frames.specs.Feeding.{Splits, Joins, Adds, Feeds}
+use Rattle.sp_frames.specs.Feeding.{Joins, Adds, Feeds}
 use Rattle.sp_frames.proofs.FaultLaws.{one_fault}
 use Rattle.sp_frames.proofs.StreamLaws.{front, stream-append, each-append, each-front, one_whole}
-
--- frames that were split off join a queue
-pub joins : (ready : List Frame) (bytes : List ℕ) (frames : List Frame) (rest : List ℕ) (stop : Option FrameFault) → Splits bytes frames rest stop → Joins ready bytes (ready ++ frames) rest stop
-joins ready bytes frames rest stop is = record {
-  whole = stream-append ready frames rest ∙ ap (stream_of ready) (sym is.whole);
-  each = λ each. each-append ready frames each is.each;
-  none = is.none;
-  stopped = is.stopped;
-}
 
 -- what joined is what is held now, with the piece behind it
 pub adds : (old : Held) (piece : List ℕ) (new : Held) → Joins old.ready (old.rest ++ piece) new.ready new.rest new.stop → Adds old piece new

@@ -1,7 +1,7 @@
 -- A stream is its frames and no others.
-use Rattle.std.proofs.Common.{◌≡◌, ℕ, ◌+◌, List, [], ◌∷◌, ◌++◌, length, drop, refl, sym, ap, ◌∙◌, append_assoc}
+use Rattle.std.proofs.Common.{◌≡◌, ℕ, List, [], ◌∷◌, ◌++◌, length, drop, refl, sym, ap, ◌∙◌, append_assoc}
 use Rattle.std.specs.List.{flat_map, AllByRecursion}
-use Rattle.std.proofs.lemmas.List.{append-nil, drop_at, drop-drop}
+use Rattle.std.proofs.lemmas.List.{append-nil, drop_at}
 use Rattle.sp_frames.specs.declared.fault.FrameFault.{FrameFault}
 use Rattle.sp_frames.specs.declared.frame.Frame.{Frame}
 use Rattle.sp_frames.specs.declared.reading.Step.{Step}
@@ -10,7 +10,7 @@ use Rattle.sp_frames.specs.Fields.{IsBytes}
 use Rattle.sp_frames.specs.Grammar.{spelling, Fits}
 use Rattle.sp_frames.specs.Stream.{stream_of, NoFront, IsWhole}
 use Rattle.sp_frames.specs.Faults.{HasFault}
-use Rattle.sp_frames.specs.Feeding.{IsFront, FrontIs}
+use Rattle.sp_frames.specs.Feeding.{FrontIs}
 use Rattle.sp_frames.specs.Reading.{step_of}
 use Rattle.sp_frames.proofs.StepLaws.{spelled, found}
 use Rattle.sp_frames.proofs.FaultLaws.{step_fault, fault_step, has_fault_stays, partial_none}
@@ -60,13 +60,6 @@ each-append (f ∷ fs) gs hf hg = (hf.0, each-append fs gs hf.1 hg)
 pub each-front : (fs gs : List Frame) → AllByRecursion Fits (fs ++ gs) → AllByRecursion Fits fs
 each-front [] gs h = tt
 each-front (f ∷ fs) gs h = (h.0, each-front fs gs h.1)
-
--- one more frame is taken off the front of the bytes
-pub stream-more : (bytes : List ℕ) (fs : List Frame) (used n : ℕ) (f : Frame) → IsFront (drop used bytes) f n → bytes ≡ stream_of fs (drop used bytes) → bytes ≡ stream_of (fs ++ f ∷ []) (drop (used + n) bytes)
-stream-more bytes fs used n f is whole =
-    let text : drop used bytes ≡ spelling f ++ drop (used + n) bytes = is.text ∙ ap (λ (x : List ℕ). spelling f ++ x) (drop-drop n used bytes) in
-    let one : stream_of (f ∷ []) (drop (used + n) bytes) ≡ spelling f ++ drop (used + n) bytes = ap (λ (x : List ℕ). x ++ drop (used + n) bytes) (append-nil (spelling f)) in
-    whole ∙ ap (stream_of fs) (text ∙ sym one) ∙ sym (stream-append fs (f ∷ []) (drop (used + n) bytes))
 
 streams : (fs gs : List Frame) (r s : List ℕ) → AllByRecursion Fits fs → AllByRecursion Fits gs → NoFront r → NoFront s → stream_of fs r ≡ stream_of gs s → (fs ≡ gs) × (r ≡ s)
 streams [] [] r s hf hg nr ns e = (refl, e)

@@ -24,13 +24,6 @@ FrontIs bytes (Whole f n) = IsFront bytes f n
 FrontIs bytes Partial = NoFront bytes × NoFault bytes
 FrontIs bytes (Fault e) = NoFront bytes × HasFault bytes e
 
--- the bytes are these frames, and then no frame but perhaps a fault
-pub record Splits (bytes : List ℕ) (frames : List Frame) (rest : List ℕ) (stop : Option FrameFault) : Type 0 where
-  pub whole : bytes ≡ stream_of frames rest
-  pub each : AllByRecursion Fits frames
-  pub none : NoFront rest
-  pub stopped : IsStop stop rest
-
 -- the frames of the bytes have joined the queue, and these bytes are left
 pub record Joins (ready : List Frame) (bytes : List ℕ) (ready' : List Frame) (rest : List ℕ) (stop : Option FrameFault) : Type 0 where
   pub whole : stream_of ready' rest ≡ stream_of ready bytes

@@ -61,13 +61,13 @@ header_front = n64 0 ∷ n64 0 ∷ n16 0 ∷ n16 0 ∷ n32 0 ∷ []
 unfoldable pub header_at : List ℕ → Header
 header_at bytes = header_from (front_at 0 header_front bytes)
 
--- the rows of the table
+-- the rows of the table, that of a call first
 abbrev pub rows : List Row
 rows =
+    row.Sys ∷
     row.Guest ∷
     row.Join ∷
     row.Image ∷
-    row.Sys ∷
     row.AskBytes ∷
     row.AskText ∷
     row.Put ∷

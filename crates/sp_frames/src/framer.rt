@@ -1,5 +1,5 @@
 //! A stream of bytes, cut into frames.
-ghost use Rattle.std.specs.Prelude.{List, ℕ, ◌≡◌, ◌≢◌, ◌⊎◌, ◌-◌, ◌≤◌, [], ◌∷◌, ◌++◌, length, drop, IfOk, IfErr, IfSome, IfNone, OnOk, OnErr, MatchOption, IsTrue, ◌↔◌, Err, None, Some, vec_len};
+ghost use Rattle.std.specs.Prelude.{List, ℕ, ◌≡◌, ◌≢◌, ◌⊎◌, ◌-◌, ◌≤◌, [], ◌∷◌, ◌++◌, length, take, drop, IfOk, IfErr, IfSome, IfNone, OnOk, OnErr, MatchOption, IsTrue, ◌↔◌, Err, None, Some, vec_len};
 ghost use Rattle.sp_frames.specs.declared.fault.FrameFault.{FrameFault};
 ghost use Rattle.sp_frames.specs.declared.fault.FrameFault.TheVariants as fault;
 ghost use Rattle.sp_frames.specs.declared.frame.Frame.{Frame};
@@ -7,7 +7,7 @@ ghost use Rattle.sp_frames.specs.Grammar.{Fits};
 ghost use Rattle.sp_frames.specs.Stream.{IsWhole};
 ghost use Rattle.sp_frames.specs.Faults.{HasFault, NoFault};
 ghost use Rattle.sp_frames.specs.Framing.{Held, bytes_of, Follows, IsFramed};
-ghost use Rattle.sp_frames.specs.Feeding.{Splits, Joins, Feeds};
+ghost use Rattle.sp_frames.specs.Feeding.{Joins, Feeds};
 
 use crate::fault::FrameFault;
 use crate::frame::Frame;
@@ -17,14 +17,6 @@ use std::alloc::Global;
 use std::collections::VecDeque;
 use std::marker::Model;
 
-/// The whole frames at the front of bytes, how many bytes they have, and the fault after them.
-#[derive(Drop)]
-struct Cut {
-    frames: VecDeque<Frame>,
-    used: usize,
-    stop: Option<FrameFault>,
-}
-
 /// What was taken off the front of bytes, and the fault after it.
 #[derive(Clone, Copy, Drop)]
 struct Taken {
@@ -32,30 +24,24 @@ struct Taken {
     stop: Option<FrameFault>,
 }
 
-fn split(alloc: Global, bytes: &[u8]) -> Result<Cut, NoMemory>
-    ensures splits { IfOk result (λ s.
-        Splits bytes.now s.frames.items (drop s.used bytes.now) s.stop) }
-    ensures inside { IfOk result (λ s. s.used ≤ length bytes.now) }
+/// Puts the whole frames at the front of the bytes behind a queue. An error leaves some of them there.
+fn split(alloc: Global, ready: &mut VecDeque<Frame>, bytes: &[u8]) -> Result<Taken, NoMemory>
+    ensures joins { IfOk result (λ t.
+        Joins ready.old.items bytes.now ready.new.items (drop t.used bytes.now) t.stop) }
+    ensures inside { IfOk result (λ t. t.used ≤ length bytes.now) }
+    ensures front { take (length ready.old.items) ready.new.items ≡ ready.old.items }
 {
-    let mut frames = VecDeque::new(alloc);
     let mut used = 0;
     loop {
         let (_, rest) = bytes.split_at(used);
         match read_step(alloc, rest)? {
             Step::Whole(frame, len) => {
-                frames.push_back(frame)?;
+                ready.push_back(frame)?;
                 used += len;
             }
-            Step::Partial => {
-                return Ok(Cut {
-                    frames,
-                    used,
-                    stop: None,
-                });
-            }
+            Step::Partial => return Ok(Taken { used, stop: None }),
             Step::Fault(fault) => {
-                return Ok(Cut {
-                    frames,
+                return Ok(Taken {
                     used,
                     stop: Some(fault),
                 });
@@ -64,18 +50,19 @@ fn split(alloc: Global, bytes: &[u8]) -> Result<Cut, NoMemory>
     }
 }
 
+/// The same; an error leaves the queue as it was.
 fn join(alloc: Global, ready: &mut VecDeque<Frame>, bytes: &[u8]) -> Result<Taken, NoMemory>
     ensures joins { IfOk result (λ t.
         Joins ready.old.items bytes.now ready.new.items (drop t.used bytes.now) t.stop) }
     ensures inside { IfOk result (λ t. t.used ≤ length bytes.now) }
     ensures err { OnErr result (ready.new.items ≡ ready.old.items) }
 {
-    let mut cut = split(alloc, bytes)?;
-    ready.append(&mut cut.frames)?;
-    Ok(Taken {
-        used: cut.used,
-        stop: cut.stop,
-    })
+    let waiting = ready.len();
+    let taken = split(alloc, ready, bytes);
+    if taken.is_err() {
+        ready.truncate(waiting);
+    }
+    taken
 }
 
 /// Drops the first bytes. What is left moves, so nothing does where none is dropped.

@@ -33,12 +33,12 @@ pub enum Row {
     Refused,
 }
 
-/// The table's rows, in order.
+/// The table's rows, that of a call first: most frames are calls.
 const ROWS: [Row; 20] = [
+    Row::Sys,
     Row::Guest,
     Row::Join,
     Row::Image,
-    Row::Sys,
     Row::AskBytes,
     Row::AskText,
     Row::Put,
