@@ -20,7 +20,7 @@ use Rattle.tables.proofs.Maps.{get_put_other, get_gone, get_gone_other, same_or_
 
 -- ---- a jar stays a jar
 
-nothing : (o : Option Unused) → o ≡ None → IsSome o → ⊥
+pub nothing : (o : Option Unused) → o ≡ None → IsSome o → ⊥
 nothing o none there = absurd (cc)
 
 few_in_empty : len (empty {X = Unused} {R = nat_cmp}) ≤ UNUSED_COOKIES
@@ -65,7 +65,7 @@ next_is_jar jar x is e = record {
 }
 
 -- a number of a jar with a cookie less is one that the jar had
-among_less : (jar : Jar) (k n : ℕ) → IsSome (get (remove jar.unused k) n) → IsSome (get jar.unused n)
+pub among_less : (jar : Jar) (k n : ℕ) → IsSome (get (remove jar.unused k) n) → IsSome (get jar.unused n)
 among_less jar k n there =
     elim (same_or_not n k) [
       | inl same ↦ absurd (nothing _ (ap (λ (j : ℕ). get (remove jar.unused k) j) same ∙ get_gone jar.unused k) there)

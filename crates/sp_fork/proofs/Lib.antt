@@ -1,3 +1,4 @@
 pub mod Jars
 pub mod Firsts
 pub mod Cancelled
+pub mod Unmade

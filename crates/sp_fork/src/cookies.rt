@@ -1,10 +1,11 @@
 ghost use Rattle.std.specs.Prelude.{◌≡◌, ◌↔◌, ◌+◌, true, Err, IfOk, OnOk, OnErr, option_map, slice_get};
 ghost use Rattle.std.specs.FinMap as map;
 ghost use Rattle.std.specs.Result.{result_ok};
-ghost use Rattle.sp_fork.specs.Jar.{after, cancellable, empty_jar, found, is_full, is_made_by};
-ghost use Rattle.sp_fork.specs.Jar.{made_by, redeemable, with_next};
+ghost use Rattle.sp_fork.specs.Jar.{IsJar, Jar, after, cancellable, empty_jar, found, is_full};
+ghost use Rattle.sp_fork.specs.Jar.{is_made_by, made_by, redeemable, with_next};
 ghost use Rattle.sp_fork.specs.Jar.Operation.{Cancel, Redeem};
 ghost use Rattle.sp_fork.specs.declared.unused.CookieFault.TheVariants.{Full};
+ghost use Rattle.sp_fork.specs.declared.unused.Unused.{Unused};
 
 use crate::unused::{CookieFault, CookieKind, UNUSED_COOKIES, Unknown, Unused};
 use sp_base::{ConnNo, Cookie, Pid};
@@ -92,6 +93,40 @@ impl Cookies {
         Ok(Cookie { number, salt })
     }
 
+    /// Takes the cookie that was made last out again, as if it had never been made. Takes no memory.
+    ///
+    /// Where that cookie isn't unused any more, nothing changes.
+    pub fn unmake(&mut self)
+        ensures { (jar : Jar) (x : Unused) → IsJar jar → self.old ≡ with_next jar x
+            → self.new ≡ jar }
+    {
+        if self.unused.remove(self.given).is_some() {
+            self.given -= 1;
+        }
+    }
+
+    /// The unused cookie that has a cookie's number and salt, and is of a kind; None exactly where
+    /// `redeem` answers Unknown. Takes no memory.
+    pub fn redeemable(&self, cookie: Cookie, kind: CookieKind) -> Option<Unused>
+        ensures { result ≡ redeemable self.now cookie kind }
+    {
+        match self.found(cookie) {
+            Some(found) if found.kind == kind => Some(found),
+            _ => None,
+        }
+    }
+
+    /// The unused cookie that has a cookie's number and salt, and that a connection made; None
+    /// exactly where `cancel` answers Unknown. Takes no memory.
+    pub fn cancellable(&self, cookie: Cookie, maker: ConnNo) -> Option<Unused>
+        ensures { result ≡ cancellable self.now cookie maker }
+    {
+        match self.found(cookie) {
+            Some(found) if found.maker == maker => Some(found),
+            _ => None,
+        }
+    }
+
     /// Uses a cookie: gives its process and the connection that made it, and takes it out.
     ///
     /// Unknown comes exactly where no unused cookie has this number, salt and kind, and leaves all
@@ -101,12 +136,12 @@ impl Cookies {
             option_map (λ x. (x.pid, x.maker)) (redeemable self.old cookie kind) }
         ensures jar { self.new ≡ after self.old (Redeem cookie kind) }
     {
-        match self.found(cookie) {
-            Some(found) if found.kind == kind => {
+        match self.redeemable(cookie, kind) {
+            Some(found) => {
                 self.take_out(cookie.number);
                 Ok((found.pid, found.maker))
             }
-            _ => Err(Unknown),
+            None => Err(Unknown),
         }
     }
 
@@ -119,12 +154,12 @@ impl Cookies {
             option_map (λ x. (x.pid, x.kind)) (cancellable self.old cookie maker) }
         ensures jar { self.new ≡ after self.old (Cancel cookie maker) }
     {
-        match self.found(cookie) {
-            Some(found) if found.maker == maker => {
+        match self.cancellable(cookie, maker) {
+            Some(found) => {
                 self.take_out(cookie.number);
                 Ok((found.pid, found.kind))
             }
-            _ => Err(Unknown),
+            None => Err(Unknown),
         }
     }
 

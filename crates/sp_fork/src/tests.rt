@@ -1,4 +1,4 @@
-use crate::{CookieFault, CookieKind, Cookies, UNUSED_COOKIES};
+use crate::{CookieFault, CookieKind, Cookies, UNUSED_COOKIES, Unused};
 use sp_base::{ConnNo, Cookie, Pid};
 use std::test::Fail;
 
@@ -13,6 +13,8 @@ enum Step {
     Cancel(u64, u64, u32),
     /// The first cookie of a maker is asked for.
     First(u32),
+    /// The cookie that was made last is taken out again.
+    Unmake,
 }
 
 /// What is answered to a step.
@@ -28,6 +30,8 @@ enum Told {
     Cancelled(u32, CookieKind),
     /// There is no such cookie.
     Unknown,
+    /// It was done.
+    Done,
 }
 
 fn cookie(number: u64, salt: u64) -> Cookie {
@@ -56,6 +60,10 @@ fn play(cookies: &mut Cookies, step: Step) -> Told {
             Some(first) => Told::Cookie(first.number, first.salt),
             None => Told::Unknown,
         },
+        Step::Unmake => {
+            cookies.unmake();
+            Told::Done
+        }
     }
 }
 
@@ -88,11 +96,37 @@ fn answers_each_step(rt: HostRuntime) -> Result<(), Fail> {
         (Step::First(1), Told::Unknown, 0),
         (Step::Make(6, 1, 60, Exec), Told::Cookie(4, 60), 1),
         (Step::Redeem(4, 60, Exec), Told::Redeemed(6, 1), 0),
+        (Step::Make(7, 1, 50, Fork), Told::Cookie(5, 50), 1),
+        (Step::Unmake, Told::Done, 0),
+        (Step::Redeem(5, 50, Fork), Told::Unknown, 0),
+        (Step::Make(7, 1, 55, Fork), Told::Cookie(5, 55), 1),
     ];
     for (step, told, unused) in steps {
         assert_eq!(rt; play(&mut cookies, step), told, "{step:?}");
         assert_eq!(rt; cookies.unused(), unused, "{step:?}");
     }
+    Ok(())
+}
+
+/// A cookie is shown to whom it is of use, and stays unused.
+#[test]
+fn shows_a_cookie(rt: HostRuntime) -> Result<(), Fail> {
+    use CookieKind::{Exec, Fork};
+    let mut cookies = Cookies::fresh(rt.alloc());
+    let made = cookies.make(Pid(3), ConnNo(1), 90, Fork);
+    assert_eq!(rt; made, Ok(cookie(1, 90)));
+    let unused = Some(Unused {
+        pid: Pid(3),
+        maker: ConnNo(1),
+        salt: 90,
+        kind: Fork,
+    });
+    assert_eq!(rt; cookies.redeemable(cookie(1, 90), Fork), unused);
+    assert_eq!(rt; cookies.redeemable(cookie(1, 90), Exec), None);
+    assert_eq!(rt; cookies.redeemable(cookie(1, 91), Fork), None);
+    assert_eq!(rt; cookies.cancellable(cookie(1, 90), ConnNo(1)), unused);
+    assert_eq!(rt; cookies.cancellable(cookie(1, 90), ConnNo(2)), None);
+    assert_eq!(rt; cookies.unused(), 1);
     Ok(())
 }
 
