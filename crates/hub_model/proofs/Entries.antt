@@ -13,17 +13,17 @@ use Rattle.kern_model.specs.declared.journal.Entry.{Entry}
 use Rattle.kern_model.specs.declared.journal.Who.{Who}
 use Rattle.kern_model.specs.declared.operation.Ins.{Ins}
 use Rattle.kern_model.specs.declared.operation.Op.{Op}
-use Rattle.kern_model.specs.declared.operation.Op.TheVariants.{Sys}
+use Rattle.kern_model.specs.declared.operation.Op.TheVariants.{Sys, Exec}
 use Rattle.kern_model.specs.declared.outcome.Outcome.{Outcome}
 use Rattle.kern_model.specs.Act.{act}
-use Rattle.kern_model.specs.Descriptors.{act_attach, act_exit}
+use Rattle.kern_model.specs.Descriptors.{act_attach, act_fork, act_exit}
 use Rattle.kern_model.specs.Journal.{FitsPid, Follows, state_after, entry_of_step, next_entry}
 use Rattle.kern_model.specs.Needs.{FitsIns}
 use Rattle.kern_model.specs.Outcome.{success}
 use Rattle.kern_model.specs.State.{State, Process, fresh_process, with_process}
 use Rattle.kern_model.specs.Step.{Step, answered, or_fail}
 use Rattle.kern_model.proofs.Journals.{entry, state_after-push, after_entry-entry, follows_by}
-use Rattle.kern_model.proofs.Lemmas.{each_is, call_keeps, exit_ends, journal_tables}
+use Rattle.kern_model.proofs.Lemmas.{each_is, call_keeps, exec_keeps, exit_ends, journal_tables}
 
 -- an operation's entry, with the state after it
 pub record Nexts (journal : List Entry) (pid : Pid) (who : Who) (op : Op) (ins : Ins) (e : Entry) : Type 0 where
@@ -58,6 +58,10 @@ next_who journal pid who op ins e n = ap (λ (f : Entry). f.who) n.is
 
 -- ---- which processes are live
 
+-- what a new process under the lowest unused number is, or that no number is unused
+abbrev news : State → Option Process → Option ℕ → Step
+news s process number = or_fail number Eagain s (λ pid. answered pid (with_process s pid process))
+
 live_put : {X : Type 0} (table : List (Option X)) (n : ℕ) (x : X) (q : ℕ) → IsSome (at table q) → IsSome (at (slice_set table n (Some x)) q)
 live_put [] n x q h = h
 live_put (y ∷ table) zero x zero h = refl
@@ -68,33 +72,47 @@ live_put (y ∷ table) (suc n) x (suc q) h = live_put table n x q h
 put_live : {X : Type 0} (table : List (Option X)) (n : ℕ) (x : X) → n < length table → IsSome (at (slice_set table n (Some x)) n)
 put_live {X = X} table n x lt = ap (λ (o : Option X). is_some o) (at_within table n (Some x) lt)
 
--- an attach where a number is unused: the lowest one
-attach_does : (s : State) (n : ℕ) (outcome : Outcome) (t : State) → lowest_unused s.processes FIRST_PROCESS ≡ Some n → act_attach s ≡ Some (outcome, t) → (outcome ≡ success n) × (t ≡ with_process s n (Some fresh_process))
-attach_does s n outcome t low h =
-    let g : answered n (with_process s n (Some fresh_process)) ≡ Some (outcome, t) = rw low at h in
-    each_is (λ o u. (o ≡ success n) × (u ≡ with_process s n (Some fresh_process))) (answered n (with_process s n (Some fresh_process))) outcome t (refl, refl) g
+-- a new process, where a number is unused, has the lowest one
+new_does : (s : State) (process : Option Process) (n : ℕ) (outcome : Outcome) (t : State) → lowest_unused s.processes FIRST_PROCESS ≡ Some n
+    → news s process (lowest_unused s.processes FIRST_PROCESS) ≡ Some (outcome, t) → (outcome ≡ success n) × (t ≡ with_process s n process)
+new_does s process n outcome t low h =
+    let g : answered n (with_process s n process) ≡ Some (outcome, t) = rw low at h in
+    each_is (λ o u. (o ≡ success n) × (u ≡ with_process s n process)) (answered n (with_process s n process)) outcome t (refl, refl) g
 
--- what an attach makes of the processes, where a number is unused
-pub record Attached (s : State) (outcome : Outcome) (t : State) : Type 0 where
+-- what an attach or a fork makes of the processes, where a number is unused
+pub record Made (s : State) (outcome : Outcome) (t : State) : Type 0 where
   pub unused : at s.processes outcome.ret0 ≡ None
   pub made : IsSome (at t.processes outcome.ret0)
   pub live : (q : ℕ) → IsSome (at s.processes q) → IsSome (at t.processes q)
 
-pub attached : (s : State) (n : ℕ) (outcome : Outcome) (t : State) → lowest_unused s.processes FIRST_PROCESS ≡ Some n → act_attach s ≡ Some (outcome, t) → Attached s outcome t
-attached s n outcome t low h =
-    let does = attach_does s n outcome t low h in
+made_by : (s : State) (process : Option Process) (n : ℕ) (outcome : Outcome) (t : State) → IsSome process → lowest_unused s.processes FIRST_PROCESS ≡ Some n
+    → news s process (lowest_unused s.processes FIRST_PROCESS) ≡ Some (outcome, t) → Made s outcome t
+made_by s None n outcome t there low h = absurd cc
+made_by s (Some process) n outcome t there low h =
+    let does = new_does s (Some process) n outcome t low h in
     let is = lowest_unused_is s.processes FIRST_PROCESS n low in
     let value : n ≡ outcome.ret0 = sym (ap (λ (o : Outcome). o.ret0) does.0) in
-    let after : t.processes ≡ slice_set s.processes n (Some fresh_process) = ap (λ (u : State). u.processes) does.1 in
+    let after : t.processes ≡ slice_set s.processes n (Some process) = ap (λ (u : State). u.processes) does.1 in
     record {
       unused = subst (λ (k : ℕ). at s.processes k ≡ None) value is.1;
-      made = subst (λ (k : ℕ). IsSome (at t.processes k)) value (subst (λ (l : List (Option Process)). IsSome (at l n)) (sym after) (put_live s.processes n fresh_process is.0));
-      live = λ q live. subst (λ (l : List (Option Process)). IsSome (at l q)) (sym after) (live_put s.processes n fresh_process q live);
+      made = subst (λ (k : ℕ). IsSome (at t.processes k)) value (subst (λ (l : List (Option Process)). IsSome (at l n)) (sym after) (put_live s.processes n process is.0));
+      live = λ q live. subst (λ (l : List (Option Process)). IsSome (at l q)) (sym after) (live_put s.processes n process q live);
     }
+
+pub attached : (s : State) (n : ℕ) (outcome : Outcome) (t : State) → lowest_unused s.processes FIRST_PROCESS ≡ Some n → act_attach s ≡ Some (outcome, t) → Made s outcome t
+attached s n outcome t low h = made_by s (Some fresh_process) n outcome t refl low h
+
+pub forked : (s : State) (pid n : ℕ) (outcome : Outcome) (t : State) → IsSome (at s.processes pid) → lowest_unused s.processes FIRST_PROCESS ≡ Some n
+    → act_fork s pid ≡ Some (outcome, t) → Made s outcome t
+forked s pid n outcome t live low h = made_by s (at s.processes pid) n outcome t live low h
 
 -- a call leaves every process live
 pub call_live : (s : State) (pid : ℕ) (call : Call) (ins : Ins) (outcome : Outcome) (t : State) (q : ℕ) → act s pid (Sys call) ins ≡ Some (outcome, t) → IsSome (at s.processes q) → IsSome (at t.processes q)
 call_live s pid call ins outcome t q h live = (call_keeps s pid call ins outcome t h).1.live q ∙ live
+
+-- an exec leaves every process live
+pub exec_live : (s : State) (pid : ℕ) (ins : Ins) (outcome : Outcome) (t : State) (q : ℕ) → act s pid Exec ins ≡ Some (outcome, t) → IsSome (at s.processes q) → IsSome (at t.processes q)
+exec_live s pid ins outcome t q h live = (exec_keeps s pid ins outcome t h).1.live q ∙ live
 
 -- an exit leaves every other process live
 pub exit_live : (s : State) (pid : ℕ) (outcome : Outcome) (t : State) (q : ℕ) → act_exit s pid ≡ Some (outcome, t) → q ≢ pid → IsSome (at s.processes q) → IsSome (at t.processes q)
@@ -106,14 +124,18 @@ exit_live s pid outcome t q h ne live = ap (λ (o : Option Process). is_some o) 
 pub process_numbers : (journal : List Entry) → length (state_after journal).processes ≡ 258
 process_numbers journal = (journal_tables journal).numbers
 
-attach_by : (s : State) (number : Option ℕ) (outcome : Outcome) (t : State) → lowest_unused s.processes FIRST_PROCESS ≡ number
-    → or_fail number Eagain s (λ pid. answered pid (with_process s pid (Some fresh_process))) ≡ Some (outcome, t) → length s.processes ≡ 258 → outcome.ret0 < 258
-attach_by s None outcome t low h len = each_is (λ o u. o.ret0 < 258) _ outcome t (omega arith) h
-attach_by s (Some n) outcome t low h len = each_is (λ o u. o.ret0 < 258) _ outcome t (let lt = (lowest_unused_is s.processes FIRST_PROCESS n low).0 in omega arith) h
+new_below : (s : State) (process : Option Process) (number : Option ℕ) (outcome : Outcome) (t : State) → lowest_unused s.processes FIRST_PROCESS ≡ number
+    → news s process number ≡ Some (outcome, t) → length s.processes ≡ 258 → outcome.ret0 < 258
+new_below s process None outcome t low h len = each_is (λ o u. o.ret0 < 258) _ outcome t (omega arith) h
+new_below s process (Some n) outcome t low h len = each_is (λ o u. o.ret0 < 258) _ outcome t (let lt = (lowest_unused_is s.processes FIRST_PROCESS n low).0 in omega arith) h
 
 -- the number that an attach answers, or 0, is below 258
 pub attach_below : (s : State) (outcome : Outcome) (t : State) → act_attach s ≡ Some (outcome, t) → length s.processes ≡ 258 → outcome.ret0 < 258
-attach_below s outcome t h len = attach_by s (lowest_unused s.processes FIRST_PROCESS) outcome t refl h len
+attach_below s outcome t h len = new_below s (Some fresh_process) (lowest_unused s.processes FIRST_PROCESS) outcome t refl h len
+
+-- the number that a fork answers, or 0, is below 258
+pub fork_below : (s : State) (pid : ℕ) (outcome : Outcome) (t : State) → act_fork s pid ≡ Some (outcome, t) → length s.processes ≡ 258 → outcome.ret0 < 258
+fork_below s pid outcome t h len = new_below s (at s.processes pid) (lowest_unused s.processes FIRST_PROCESS) outcome t refl h len
 
 -- tables that have something at the same numbers have as many items
 count_same : {X : Type 0} (old new : List (Option X)) → length new ≡ length old → ((q : ℕ) → is_some (at new q) ≡ is_some (at old q)) → count_by is_some new ≡ count_by is_some old

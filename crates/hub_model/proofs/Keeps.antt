@@ -1,5 +1,5 @@
 -- A change of one connection keeps the machine sound.
-use Rattle.std.proofs.Common.{◌≡◌, ◌⊎◌, inl, inr, ℕ, true, false, List, [], ◌∷◌, ◌++◌, Option, Some, None, IsSome, sym, subst, ◌∙◌}
+use Rattle.std.proofs.Common.{◌≡◌, ◌≢◌, ◌⊎◌, inl, inr, ℕ, true, false, List, [], ◌∷◌, ◌++◌, Option, Some, None, IsSome, refl, sym, ap, subst, ◌∙◌}
 use Rattle.std.specs.Prelude.{IfSome}
 use Rattle.std.specs.List.{AllByRecursion}
 use Rattle.std.specs.Ordering.{nat_cmp}
@@ -12,7 +12,11 @@ use Rattle.kern_model.specs.declared.journal.Who.TheVariants.{Request, End, Canc
 use Rattle.kern_model.specs.Journal.{Follows, IsLegal, IsNew, HasOwnKeys, state_after}
 use Rattle.kern_model.proofs.Journals.{legal_push}
 use Rattle.hub_model.specs.State.{Connection, Machine, process_in}
-use Rattle.hub_model.specs.Sound.{IsOpened, IsConnection, HasDone, IsDone, IsSound}
+use Rattle.sp_fork.specs.declared.unused.CookieKind.{CookieKind}
+use Rattle.sp_fork.specs.declared.unused.CookieKind.TheVariants as kind
+use Rattle.sp_fork.specs.declared.unused.Unused.{Unused}
+use Rattle.hub_model.specs.declared.state.Condition.TheVariants.{InExec}
+use Rattle.hub_model.specs.Sound.{IsOpened, IsConnection, HasDone, IsDone, IsUnspoken, IsInExec, IsWaitingFor, IsCookie, IsSound}
 use Rattle.tables.proofs.Maps.{Changes, after_change, same_or_not}
 
 -- the process of this number is live
@@ -35,14 +39,31 @@ pub record Adds (journal : List Entry) (c : ℕ) (x : Connection) (journal' : Li
   pub done : IfSome now (HasDone entry.who)
   pub before : HasDone entry.who x → ⊥
 
+-- no connection speaks for a process, and no unused cookie hands it over
+pub record IsFree (m : Machine) (p : Pid) : Type 0 where
+  pub unspoken : IsUnspoken m p
+  pub unoffered : (number : ℕ) (u : Unused) → get m.cookies.unused number ≡ Some u → u.pid ≡ p → ⊥
+
+-- a connection still waits for its process to go on as its next program
+pub record WaitsStill (journal' : List Entry) (pid : Pid) (now : Option Connection) : Type 0 where
+  pub there : Connection
+  pub is : now ≡ Some there
+  pub waits : there.condition ≡ InExec pid
+  pub live : IsProcess journal' pid
+
 -- what a change of a connection owes to the machine
-pub record Keeps (journal : List Entry) (c : ℕ) (x : Connection) (journal' : List Entry) (now : Option Connection) : Type 0 where
+pub record Keeps (m : Machine) (c : ℕ) (x : Connection) (journal' : List Entry) (now : Option Connection) : Type 0 where
   pub connection : (x' : Connection) → now ≡ Some x' → IsConnection journal' x'
   pub done : (who : Who) → HasDone who x → IfSome now (HasDone who)
-  pub grows : (journal' ≡ journal) ⊎ Adds journal c x journal' now
-  pub others : (q : Pid) → IsProcess journal q → (process_in x.condition ≡ Some q → ⊥) → IsProcess journal' q
+  pub grows : (journal' ≡ m.journal) ⊎ Adds m.journal c x journal' now
+  pub others : (q : Pid) → IsProcess m.journal q → (process_in x.condition ≡ Some q → ⊥) → IsProcess journal' q
   pub fresh : (x' : Connection) (p : Pid) → now ≡ Some x' → process_in x'.condition ≡ Some p
-      → (process_in x.condition ≡ Some p) ⊎ (at (state_after journal).processes p.0 ≡ None)
+      → (process_in x.condition ≡ Some p) ⊎ IsFree m p
+  -- it is there as long as it has made an unused cookie
+  pub made : (number : ℕ) (u : Unused) → get m.cookies.unused number ≡ Some u → u.maker.0 ≡ c → IsSome now
+  -- and waits as long as one of those is for its process
+  pub waits : (number : ℕ) (u : Unused) → get m.cookies.unused number ≡ Some u → u.maker.0 ≡ c → u.kind ≡ kind.Exec
+      → x.condition ≡ InExec u.pid → WaitsStill journal' u.pid now
 
 -- ---- what holds of all entries
 
@@ -54,7 +75,7 @@ pub all_push : {A : Type 0} (P : A → Type 0) (xs : List A) (x : A) → AllByRe
 all_push P [] x h p = (p, tt)
 all_push P (y ∷ xs) x h p = (h.0, all_push P xs x h.1 p)
 
-keys_push : (entries : List Entry) (e : Entry) → HasOwnKeys entries → IsNew e.who entries → HasOwnKeys (entries ++ e ∷ [])
+pub keys_push : (entries : List Entry) (e : Entry) → HasOwnKeys entries → IsNew e.who entries → HasOwnKeys (entries ++ e ∷ [])
 keys_push [] e h new = (tt, tt)
 keys_push (f ∷ entries) e h new = (all_push (λ g. g.who ≡ f.who → ⊥) entries e h.0 (λ (q : e.who ≡ f.who). new.0 (sym q)), keys_push entries e h.1 new.1)
 
@@ -80,7 +101,7 @@ new_key m c x who sound e about not = all_map (λ e. IsDone m e.who) (λ e. e.wh
     (λ entry done (q : entry.who ≡ who). not (about_done m c x who e about (subst (λ (w : Who). IsDone m w) q done))) m.journal sound.done
 
 -- what is so of the connection of each number is so after a change of one
-moved : (old new : FinMap nat_cmp Connection) (c d : ℕ) (x : Connection) (now : Option Connection) (P : Connection → Type 0)
+pub moved : (old new : FinMap nat_cmp Connection) (c d : ℕ) (x : Connection) (now : Option Connection) (P : Connection → Type 0)
     → get old c ≡ Some x → Changes old new c now → (P x → IfSome now P) → IfThere old d P → IfThere new d P
 moved old new c d x now P e changes goes h =
     elim (same_or_not d c) [
@@ -108,13 +129,109 @@ now_done m c journal' connections now (End d) opened here about done =
 now_done m c journal' connections now (Cancelled cookie) opened here about done = absurd about
 now_done m c journal' connections now (Host guest count) opened here about done = absurd about
 
-clash : (journal : List Entry) (p : Pid) → IsProcess journal p → at (state_after journal).processes p.0 ≡ None → ⊥
+pub clash : (journal : List Entry) (p : Pid) → IsProcess journal p → at (state_after journal).processes p.0 ≡ None → ⊥
 clash journal p live none = let h : IsSome (at (state_after journal).processes p.0) = live in let g : false ≡ true = rw none at h in cc
+
+-- no connection and no cookie has a process that isn't live
+pub unused_free : (m : Machine) (p : Pid) → IsSound m → at (state_after m.journal).processes p.0 ≡ None → IsFree m p
+unused_free m p sound none = record {
+  unspoken = λ c x here own. clash m.journal p ((sound.each c x here).process p own) none;
+  unoffered = λ number u there same. clash m.journal p (subst (λ (q : Pid). IsProcess m.journal q) same (sound.cookies number u there).process) none;
+}
+
+-- ---- unused cookies
+
+-- the process of a cookie waits for it after a change, where either kind of waiting goes on
+pub waits_on : (m m' : Machine) (u : Unused) (k : CookieKind) → (k ≡ kind.Fork → IsUnspoken m u.pid → IsUnspoken m' u.pid)
+    → (k ≡ kind.Exec → IsInExec m u.maker u.pid → IsInExec m' u.maker u.pid) → IsWaitingFor m u k → IsWaitingFor m' u k
+waits_on m m' u kind.Fork fork exec h = fork refl h
+waits_on m m' u kind.Exec fork exec h = exec refl h
+
+-- no connection speaks for the child that a fork cookie hands over
+pub fork_waits : (m : Machine) (u : Unused) (k : CookieKind) → k ≡ kind.Fork → IsWaitingFor m u k → IsUnspoken m u.pid
+fork_waits m u kind.Fork e h = h
+fork_waits m u kind.Exec e h = absurd cc
+
+-- the maker of an exec cookie waits
+pub exec_waits : (m : Machine) (u : Unused) (k : CookieKind) → k ≡ kind.Exec → IsWaitingFor m u k → IsInExec m u.maker u.pid
+exec_waits m u kind.Fork e h = absurd cc
+exec_waits m u kind.Exec e h = h
+
+fork_or_exec : (k : CookieKind) → (k ≡ kind.Fork) ⊎ (k ≡ kind.Exec)
+fork_or_exec kind.Fork = inl refl
+fork_or_exec kind.Exec = inr refl
+
+module _ (m : Machine) (c : ℕ) (x : Connection) (journal' : List Entry) (connections : FinMap nat_cmp Connection) (now : Option Connection)
+    (sound : IsSound m) (here : get m.connections c ≡ Some x) (changes : Changes m.connections connections c now) (keeps : Keeps m c x journal' now) where
+  abbrev after : Machine
+  after = record m { journal = journal'; connections = connections }
+
+  -- no connection speaks for the child of a fork cookie after the change of one
+  child_waits : (number : ℕ) (u : Unused) → get m.cookies.unused number ≡ Some u → IsUnspoken m u.pid → IsUnspoken after u.pid
+  child_waits number u there unspoken d z h speaks =
+      elim (after_change m.connections connections c d z now changes h) [
+        | inl e ↦ elim (keeps.fresh z u.pid e.1 speaks) [
+          | inl own ↦ unspoken c x here own
+          | inr free ↦ free.unoffered number u there refl
+        ]
+        | inr o ↦ unspoken d z o.1 speaks
+      ]
+
+  -- the maker of an exec cookie that isn't the connection that changes
+  other_maker : (u : Unused) → u.maker.0 ≢ c → IsInExec m u.maker u.pid → IsInExec after u.maker u.pid
+  other_maker u ne w = (w.0, changes.others u.maker.0 ne ∙ w.1, w.2)
+
+  -- the maker that changes waits still
+  waits_still : (number : ℕ) (u : Unused) → get m.cookies.unused number ≡ Some u → u.maker.0 ≡ c → u.kind ≡ kind.Exec → IsInExec m u.maker u.pid → WaitsStill journal' u.pid now
+  waits_still number u there same is w =
+      let at_c : get m.connections c ≡ Some w.0 = subst (λ (n : ℕ). get m.connections n ≡ Some w.0) same w.1 in
+      let one : Some x ≡ Some w.0 = sym here ∙ at_c in
+      let it : x ≡ w.0 = cc in
+      keeps.waits number u there same is (ap (λ (y : Connection). y.condition) it ∙ w.2)
+
+  maker_waits : (number : ℕ) (u : Unused) → get m.cookies.unused number ≡ Some u → u.kind ≡ kind.Exec → IsInExec m u.maker u.pid → IsInExec after u.maker u.pid
+  maker_waits number u there is w =
+      elim (same_or_not u.maker.0 c) [
+        | inl same ↦ (let s = waits_still number u there same is w in
+            (s.there, subst (λ (n : ℕ). get connections n ≡ Some s.there) (sym same) (changes.here ∙ s.is), s.waits))
+        | inr ne ↦ other_maker u ne w
+      ]
+
+  -- a connection in exec speaks for its process
+  in_exec : (y : Connection) (pid : Pid) → y.condition ≡ InExec pid → process_in y.condition ≡ Some pid
+  in_exec y pid e = ap process_in e
+
+  maker_lives : (number : ℕ) (u : Unused) → get m.cookies.unused number ≡ Some u → u.kind ≡ kind.Exec → IsProcess m.journal u.pid → IsInExec m u.maker u.pid → IsProcess journal' u.pid
+  maker_lives number u there is live w =
+      elim (same_or_not u.maker.0 c) [
+        | inl same ↦ (waits_still number u there same is w).live
+        | inr ne ↦ keeps.others u.pid live (λ own. ne (sound.owners u.maker.0 c w.0 x u.pid w.1 here (in_exec w.0 u.pid w.2) own))
+      ]
+
+  cookie_lives : (number : ℕ) (u : Unused) → get m.cookies.unused number ≡ Some u → IsCookie m u → IsProcess journal' u.pid
+  cookie_lives number u there is =
+      elim (fork_or_exec u.kind) [
+        | inl fork ↦ keeps.others u.pid is.process (λ own. fork_waits m u u.kind fork is.waits c x here own)
+        | inr exec ↦ maker_lives number u there exec is.process (exec_waits m u u.kind exec is.waits)
+      ]
+
+  -- each unused cookie is as it was after the change of one connection
+  pub cookie_keeps : (number : ℕ) (u : Unused) → get m.cookies.unused number ≡ Some u → IsCookie after u
+  cookie_keeps number u there =
+      let is = sound.cookies number u there in
+      record {
+        maker = elim (same_or_not u.maker.0 c) [
+          | inl same ↦ subst (λ (n : ℕ). IsSome (get connections n)) (sym same) (subst (λ (o : Option Connection). IsSome o) (sym changes.here) (keeps.made number u there same))
+          | inr ne ↦ subst (λ (o : Option Connection). IsSome o) (sym (changes.others u.maker.0 ne)) is.maker
+        ];
+        process = cookie_lives number u there is;
+        waits = waits_on m after u u.kind (λ fork w. child_waits number u there w) (λ exec w. maker_waits number u there exec w) is.waits;
+      }
 
 -- ---- the machine
 
 pub sound_change : (m : Machine) (c : ℕ) (x : Connection) (journal' : List Entry) (connections : FinMap nat_cmp Connection) (now : Option Connection)
-    → IsSound m → get m.connections c ≡ Some x → Changes m.connections connections c now → Keeps m.journal c x journal' now
+    → IsSound m → get m.connections c ≡ Some x → Changes m.connections connections c now → Keeps m c x journal' now
     → IsSound (record m { journal = journal'; connections = connections })
 sound_change m c x journal' connections now sound here changes keeps =
     let m' = record m { journal = journal'; connections = connections } in
@@ -150,15 +267,18 @@ sound_change m c x journal' connections now sound here changes keeps =
           | inl f ↦ e.0 ∙ sym f.0
           | inr o ↦ elim (keeps.fresh y p e.1 s) [
             | inl own ↦ e.0 ∙ sound.owners c l x z p here o.1 own t
-            | inr new ↦ absurd (clash m.journal p ((sound.each l z o.1).process p t) new)
+            | inr free ↦ absurd (free.unspoken l z o.1 t)
           ]
         ]
         | inr o ↦ elim (after_change m.connections connections c l z now changes g) [
           | inl f ↦ elim (keeps.fresh z p f.1 t) [
             | inl own ↦ sound.owners d c y x p o.1 here s own ∙ sym f.0
-            | inr new ↦ absurd (clash m.journal p ((sound.each d y o.1).process p s) new)
+            | inr free ↦ absurd (free.unspoken d y o.1 s)
           ]
           | inr r ↦ sound.owners d l y z p o.1 r.1 s t
         ]
       ];
+      jar = sound.jar;
+      cookies = λ number u there. cookie_keeps m c x journal' connections now sound here changes keeps number u there;
+      apart = sound.apart;
     }

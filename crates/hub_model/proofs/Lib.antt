@@ -1,5 +1,16 @@
-pub mod Keeps
 pub mod Entries
 pub mod Verdicts
+pub mod Keeps
+pub mod Offers
 pub mod Steps
+pub mod Ledgers
+pub mod Handovers
+pub mod Events
 pub mod Sound
+pub mod OwnersStay
+pub mod OwnersKept
+pub mod OwnersCookies
+pub mod OwnersEvents
+pub mod InheritDone
+pub mod InheritWaits
+pub mod Closing

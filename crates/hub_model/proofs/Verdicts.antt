@@ -1,5 +1,5 @@
 -- What a verdict tells of the frame and the connection.
-use Rattle.std.proofs.Common.{◌≡◌, ◌≢◌, ℕ, ◌<◌, Bool, true, false, List, [], ◌∷◌, length, Option, Some, None, refl, sym, ap, subst, arith, cond, ◌∙◌}
+use Rattle.std.proofs.Common.{◌≡◌, ℕ, ◌<◌, Bool, true, false, List, [], ◌∷◌, length, Option, Some, None, refl, subst, arith, cond}
 use Rattle.std.specs.Prelude.{◌==◌, ◌&&◌, ◌||◌, nat_le, nat_lt, not, is_none, slice_get, IsTrue}
 use Rattle.std.specs.List.{AllByRecursion, list_any}
 use Rattle.std.specs.FinMap.{get, len}
@@ -11,39 +11,48 @@ use Rattle.sp_base.specs.declared.call.Call.{Call}
 use Rattle.sp_base.specs.declared.errno.Errno.{Errno}
 use Rattle.sp_base.specs.declared.errno.Errno.TheVariants.{Efault, Enametoolong}
 use Rattle.sp_base.specs.declared.limits.TheConstants.{FIRST_PROCESS}
+use Rattle.sp_base.specs.declared.names.ConnNo.{ConnNo}
 use Rattle.sp_base.specs.declared.names.SpError.{SpError}
-use Rattle.sp_base.specs.declared.names.SpError.TheVariants.{TryAgain, ProcFull, InExec}
+use Rattle.sp_base.specs.declared.names.SpError.TheVariants.{TryAgain, BadCookie, ProcFull, InExec}
 use Rattle.sp_base.specs.declared.need.Need.{Need}
 use Rattle.sp_base.specs.declared.need.Need.TheVariants.{Bytes, Text}
 use Rattle.sp_frames.specs.Grammar.{is_answer, is_text_answer}
 use Rattle.sp_frames.specs.declared.frame.Body.{Body}
-use Rattle.sp_frames.specs.declared.frame.Body.TheVariants.{Guest, Sys, GotBytes, GotText}
+use Rattle.sp_frames.specs.declared.frame.Body.TheVariants as body
+use Rattle.sp_frames.specs.declared.frame.Body.TheVariants.{GotBytes, GotText}
 use Rattle.sp_frames.specs.declared.frame.Frame.{Frame}
+use Rattle.sp_fork.specs.Jar.{Jar, cancellable, is_full, redeemable}
+use Rattle.sp_fork.specs.declared.unused.CookieKind.TheVariants as kind
+use Rattle.sp_fork.specs.declared.unused.Unused.{Unused}
 use Rattle.kern_model.specs.State.{State}
 use Rattle.hub_model.specs.Machine.{refusal_takes}
 use Rattle.hub_model.specs.Requests.{bytes_in}
 use Rattle.hub_model.specs.State.{Connection, is_live, is_fresh, is_draining}
-use Rattle.hub_model.specs.Verdict.{is_other_count, is_later_call, call_verdict, guest_verdict, request_verdict, is_copy_of, index_in, error_in, copy_by_error, is_index, need_verdict, copy_verdict, body_verdict, verdict_of}
+use Rattle.hub_model.specs.Verdict.{is_other_count, is_later_call, call_verdict, guest_verdict, takeover_verdict, fork_verdict, ready_verdict, cancel_verdict, request_verdict, is_copy_of, index_in, error_in, copy_by_error, is_index, need_verdict, copy_verdict, body_verdict, verdict_of}
 use Rattle.hub_model.specs.declared.state.Condition.{Condition}
 use Rattle.hub_model.specs.declared.state.Condition.TheVariants as condition
 use Rattle.hub_model.specs.declared.state.OpenCall.{OpenCall}
 use Rattle.hub_model.specs.declared.state.OpenCall.TheVariants.{Gathers, Fails, Answers}
 use Rattle.hub_model.specs.declared.state.TheConstants.{OPEN_CALLS}
 use Rattle.hub_model.specs.declared.verdict.Verdict.{Verdict}
-use Rattle.hub_model.specs.declared.verdict.Verdict.TheVariants.{Closed, Malformed, Refused, Attach, Task, Copy, CopyFault}
+use Rattle.hub_model.specs.declared.verdict.Verdict.TheVariants.{Closed, Malformed, Refused, Attach, Join, Image, Fork, Ready, Cancel, Task, Copy, CopyFault}
 
--- a test that leads to another verdict failed
-otherwise : (b : Bool) (u v w : Verdict) → cond b u v ≡ w → u ≢ w → (b ≡ false) × (v ≡ w)
-otherwise true u v w e ne = absurd (ne e)
-otherwise false u v w e ne = (refl, e)
-
--- a test that leads to this verdict, and not to the other one
-passes : (b : Bool) (u v w : Verdict) → cond b u v ≡ w → v ≢ w → (b ≡ true) × (u ≡ w)
-passes true u v w e ne = (refl, e)
-passes false u v w e ne = absurd (ne e)
+-- what is so where a test passes and where it fails is so of the verdict that it leads to
+by_test : (P : Verdict → Type 0) (b : Bool) (u v : Verdict) → (b ≡ true → P u) → (b ≡ false → P v) → P (cond b u v)
+by_test P true u v passes fails = passes refl
+by_test P false u v passes fails = fails refl
 
 is_later : (a b : ℕ) → nat_le a b ≡ false → b < a
 is_later a b e = grind (arith, nat_tests)
+
+is_equal : (a b : ℕ) → (a == b) ≡ true → a ≡ b
+is_equal a b e = grind (arith, nat_tests)
+
+is_less : (a b : ℕ) → nat_lt a b ≡ true → a < b
+is_less a b e = grind (arith, nat_tests)
+
+other_than : (a b : ℕ) → (a == b) ≡ false → a ≡ b → ⊥
+other_than a b e q = grind (arith, nat_tests)
 
 fresh_is : (c : Condition) → not (is_fresh c) ≡ false → c ≡ condition.Fresh
 fresh_is condition.Fresh e = refl
@@ -53,7 +62,7 @@ some_is : {X : Type 0} (o : Option X) → is_none o ≡ false → (x : X) × (o 
 some_is None e = absurd cc
 some_is (Some x) e = (x, refl)
 
-holds : (b : Bool) → not b ≡ false → IsTrue b
+holds : (b : Bool) → not b ≡ false → b ≡ true
 holds true e = refl
 holds false e = absurd cc
 
@@ -65,139 +74,51 @@ both_second : (a b : Bool) → (a && b) ≡ true → b ≡ true
 both_second true b e = e
 both_second false b e = absurd cc
 
--- ---- requests
+neither : (a b : Bool) → (a || b) ≡ false → (a ≡ false) × (b ≡ false)
+neither true b e = absurd cc
+neither false b e = (refl, e)
 
--- a handshake that is taken
-pub record Attaches (s : State) (x : Connection) (f : Frame) : Type 0 where
+-- ---- what is told
+
+-- a guest's handshake that is taken
+pub record Attaches (s : State) (x : Connection) (n : ℕ) : Type 0 where
   pub fresh : x.condition ≡ condition.Fresh
-  pub later : x.last < f.number.0
+  pub later : x.last < n
   pub pid : ℕ
   pub lowest : lowest_unused s.processes FIRST_PROCESS ≡ Some pid
 
+-- a handshake by a cookie that is taken
+pub record TakesOver (x : Connection) (n : ℕ) (cookie : Option Unused) : Type 0 where
+  pub fresh : x.condition ≡ condition.Fresh
+  pub later : x.last < n
+  pub unused : Unused
+  pub there : cookie ≡ Some unused
+
+-- a fork that is taken
+pub record Forks (s : State) (jar : Jar) (x : Connection) (n : ℕ) : Type 0 where
+  pub later : x.last < n
+  pub live : is_live x.condition ≡ true
+  pub room : is_full jar ≡ false
+  pub pid : ℕ
+  pub lowest : lowest_unused s.processes FIRST_PROCESS ≡ Some pid
+
+-- a process that is to go on as its next program
+pub record Readies (jar : Jar) (x : Connection) (n : ℕ) : Type 0 where
+  pub later : x.last < n
+  pub live : is_live x.condition ≡ true
+  pub quiet : len x.calls ≡ 0
+  pub room : is_full jar ≡ false
+
+-- a cookie that is taken back
+pub record Cancels (x : Connection) (n : ℕ) (cookie : Option Unused) : Type 0 where
+  pub later : x.last < n
+  pub unused : Unused
+  pub there : cookie ≡ Some unused
+
 -- a call that is taken
-pub record Opens (x : Connection) (f : Frame) : Type 0 where
-  pub later : x.last < f.number.0
+pub record Opens (x : Connection) (n : ℕ) : Type 0 where
+  pub later : x.last < n
   pub live : IsTrue (is_live x.condition)
-
--- a request's number is above the last one, where it isn't malformed
-numbered : (x : Connection) (n : ℕ) (v w : Verdict) → Malformed ≢ w → request_verdict x n v ≡ w → (x.last < n) × (v ≡ w)
-numbered x n v w bad e = let o = otherwise (nat_le n x.last) Malformed v w e bad in (is_later n x.last o.0, o.1)
-
--- the tests that a call passes before the last one
-call_passes : (x : Connection) (num : ℕ) (words : List ℕ) (w : Verdict) → Malformed ≢ w → ((e : SpError) → Refused e ≢ w) → call_verdict x num words ≡ w
-    → (Task (call_of num words) ≡ w) × IsTrue (is_live x.condition)
-call_passes x num words w bad ne e =
-    let a = otherwise (is_fresh x.condition) Malformed _ w e bad in
-    let b = otherwise (is_other_count (wanted_words num) (length words)) Malformed _ w a.1 bad in
-    let c = otherwise (is_later_call num) Malformed _ w b.1 bad in
-    let d = otherwise (not (is_live x.condition)) (Refused InExec) _ w c.1 (ne InExec) in
-    let f = otherwise (nat_le OPEN_CALLS (len x.calls)) (Refused TryAgain) _ w d.1 (ne TryAgain) in
-    (f.1, holds (is_live x.condition) d.0)
-
--- a handshake is answered by no other verdict than these
-guest_only : (s : State) (x : Connection) (w : Verdict) → Malformed ≢ w → ((e : SpError) → Refused e ≢ w) → Attach ≢ w → guest_verdict s x ≡ w → ⊥
-guest_only s x w bad ne other e =
-    let a = otherwise (not (is_fresh x.condition)) Malformed _ w e bad in
-    let b = otherwise (is_none (lowest_unused s.processes FIRST_PROCESS)) (Refused ProcFull) _ w a.1 (ne ProcFull) in
-    other b.1
-
--- a copy is malformed, a copy or a fault
-copy_only : (need : Option Need) (index : ℕ) (body : Body) (w : Verdict) → Malformed ≢ w → Copy ≢ w → ((e : Errno) → CopyFault e ≢ w) → need_verdict need index body ≡ w → ⊥
-copy_only None index body w bad copy fault e = bad e
-copy_only (Some need) index body w bad copy fault e = by_test (is_index (index_in body) index && is_copy_of need body) e where
-  by_error : (a b : Bool) → cond a Copy (cond b (CopyFault Efault) (CopyFault Enametoolong)) ≡ w → ⊥
-  by_error true b e = copy e
-  by_error false true e = fault Efault e
-  by_error false false e = fault Enametoolong e
-
-  by_test : (b : Bool) → cond b (copy_by_error (error_in body)) Malformed ≡ w → ⊥
-  by_test true e = by_error (error_in body == 0) (error_in body == 14) e
-  by_test false e = bad e
-
-copies_only : (task : Option OpenCall) (body : Body) (w : Verdict) → Malformed ≢ w → Copy ≢ w → ((e : Errno) → CopyFault e ≢ w) → copy_verdict task body ≡ w → ⊥
-copies_only (Some (Gathers call got true)) body w bad copy fault e = copy_only (slice_get (needs_of call) (length got)) (length got) body w bad copy fault e
-copies_only None body w bad copy fault e = bad e
-copies_only (Some (Gathers call got false)) body w bad copy fault e = bad e
-copies_only (Some (Fails call why)) body w bad copy fault e = bad e
-copies_only (Some Answers) body w bad copy fault e = bad e
-
-body_attaches : (s : State) (x : Connection) (f : Frame) (body : Body) → body_verdict s x f.number.0 body ≡ Attach → Attaches s x f
-body_attaches s x f (Guest name) e =
-    let n = numbered x f.number.0 (guest_verdict s x) Attach (λ q. cc) e in
-    let a = otherwise (not (is_fresh x.condition)) Malformed _ Attach n.1 (λ q. cc) in
-    let b = otherwise (is_none (lowest_unused s.processes FIRST_PROCESS)) (Refused ProcFull) _ Attach a.1 (λ q. cc) in
-    let l = some_is (lowest_unused s.processes FIRST_PROCESS) b.0 in
-    record { fresh = fresh_is x.condition a.0; later = n.0; pid = l.0; lowest = l.1 }
-body_attaches s x f (Sys num words) e =
-    let n = numbered x f.number.0 (call_verdict x num words) Attach (λ q. cc) e in
-    let p = call_passes x num words Attach (λ q. cc) (λ why q. cc) n.1 in let g = p.0 in absurd cc
-body_attaches s x f (GotBytes index err bytes) e = absurd (copies_only (get x.calls f.number.0) (GotBytes index err bytes) Attach (λ q. cc) (λ q. cc) (λ why q. cc) e)
-body_attaches s x f (GotText index err bytes) e = absurd (copies_only (get x.calls f.number.0) (GotText index err bytes) Attach (λ q. cc) (λ q. cc) (λ why q. cc) e)
-body_attaches s x f _ e = absurd cc
-
-body_opens : (s : State) (x : Connection) (f : Frame) (call : Call) (body : Body) → body_verdict s x f.number.0 body ≡ Task call → Opens x f
-body_opens s x f call (Guest name) e =
-    let n = numbered x f.number.0 (guest_verdict s x) (Task call) (λ q. cc) e in
-    absurd (guest_only s x (Task call) (λ q. cc) (λ why q. cc) (λ q. cc) n.1)
-body_opens s x f call (Sys num words) e =
-    let n = numbered x f.number.0 (call_verdict x num words) (Task call) (λ q. cc) e in
-    let p = call_passes x num words (Task call) (λ q. cc) (λ why q. cc) n.1 in
-    record { later = n.0; live = p.1 }
-body_opens s x f call (GotBytes index err bytes) e = absurd (copies_only (get x.calls f.number.0) (GotBytes index err bytes) (Task call) (λ q. cc) (λ q. cc) (λ why q. cc) e)
-body_opens s x f call (GotText index err bytes) e = absurd (copies_only (get x.calls f.number.0) (GotText index err bytes) (Task call) (λ q. cc) (λ q. cc) (λ why q. cc) e)
-body_opens s x f call _ e = absurd cc
-
-body_refuses : (s : State) (x : Connection) (f : Frame) (why : SpError) (body : Body) → body_verdict s x f.number.0 body ≡ Refused why → x.last < f.number.0
-body_refuses s x f why (Guest name) e = (numbered x f.number.0 (guest_verdict s x) (Refused why) (λ q. cc) e).0
-body_refuses s x f why (Sys num words) e = (numbered x f.number.0 (call_verdict x num words) (Refused why) (λ q. cc) e).0
-body_refuses s x f why (GotBytes index err bytes) e = absurd (copies_only (get x.calls f.number.0) (GotBytes index err bytes) (Refused why) (λ q. cc) (λ q. cc) (λ e q. cc) e)
-body_refuses s x f why (GotText index err bytes) e = absurd (copies_only (get x.calls f.number.0) (GotText index err bytes) (Refused why) (λ q. cc) (λ q. cc) (λ e q. cc) e)
-body_refuses s x f why _ e = absurd cc
-
--- ---- an error that isn't a connection's last one takes memory
-
-guest_takes : (a b : Bool) (why : SpError) → cond a Malformed (cond b (Refused ProcFull) Attach) ≡ Refused why → IsTrue (refusal_takes why)
-guest_takes true b why e = absurd cc
-guest_takes false true why e = let same : ProcFull ≡ why = cc in subst (λ (w : SpError). IsTrue (refusal_takes w)) same refl
-guest_takes false false why e = absurd cc
-
-call_takes : (a b c d f : Bool) (call : Call) (why : SpError)
-    → cond a Malformed (cond b Malformed (cond c Malformed (cond d (Refused InExec) (cond f (Refused TryAgain) (Task call))))) ≡ Refused why → IsTrue (refusal_takes why)
-call_takes true b c d f call why e = absurd cc
-call_takes false true c d f call why e = absurd cc
-call_takes false false true d f call why e = absurd cc
-call_takes false false false true f call why e = let same : InExec ≡ why = cc in subst (λ (w : SpError). IsTrue (refusal_takes w)) same refl
-call_takes false false false false true call why e = let same : TryAgain ≡ why = cc in subst (λ (w : SpError). IsTrue (refusal_takes w)) same refl
-call_takes false false false false false call why e = absurd cc
-
-body_takes : (s : State) (x : Connection) (n : ℕ) (why : SpError) (body : Body) → body_verdict s x n body ≡ Refused why → IsTrue (refusal_takes why)
-body_takes s x n why (Guest name) e =
-    let r = numbered x n (guest_verdict s x) (Refused why) (λ q. cc) e in
-    guest_takes (not (is_fresh x.condition)) (is_none (lowest_unused s.processes FIRST_PROCESS)) why r.1
-body_takes s x n why (Sys num words) e =
-    let r = numbered x n (call_verdict x num words) (Refused why) (λ q. cc) e in
-    call_takes (is_fresh x.condition) (is_other_count (wanted_words num) (length words)) (is_later_call num) (not (is_live x.condition)) (nat_le OPEN_CALLS (len x.calls)) (call_of num words) why r.1
-body_takes s x n why (GotBytes index err bytes) e = absurd (copies_only (get x.calls n) (GotBytes index err bytes) (Refused why) (λ q. cc) (λ q. cc) (λ e q. cc) e)
-body_takes s x n why (GotText index err bytes) e = absurd (copies_only (get x.calls n) (GotText index err bytes) (Refused why) (λ q. cc) (λ q. cc) (λ e q. cc) e)
-body_takes s x n why _ e = absurd cc
-
--- a frame that isn't malformed, on a connection that takes frames
-taken : (s : State) (x : Connection) (f : Frame) (w : Verdict) → Closed ≢ w → verdict_of s x f ≡ w → body_verdict s x f.number.0 f.body ≡ w
-taken s x f w closed e = (otherwise (is_draining x.condition) Closed _ w e closed).1
-
-pub attaches : (s : State) (x : Connection) (f : Frame) → verdict_of s x f ≡ Attach → Attaches s x f
-attaches s x f e = body_attaches s x f f.body (taken s x f Attach (λ q. cc) e)
-
-pub opens : (s : State) (x : Connection) (f : Frame) (call : Call) → verdict_of s x f ≡ Task call → Opens x f
-opens s x f call e = body_opens s x f call f.body (taken s x f (Task call) (λ q. cc) e)
-
-pub refuses : (s : State) (x : Connection) (f : Frame) (why : SpError) → verdict_of s x f ≡ Refused why → x.last < f.number.0
-refuses s x f why e = body_refuses s x f why f.body (taken s x f (Refused why) (λ q. cc) e)
-
-pub refuses_takes : (s : State) (x : Connection) (f : Frame) (why : SpError) → verdict_of s x f ≡ Refused why → IsTrue (refusal_takes why)
-refuses_takes s x f why e = body_takes s x f.number.0 why f.body (taken s x f (Refused why) (λ q. cc) e)
-
--- ---- copies
 
 -- what an open call of a number waits for
 pub record Waits (x : Connection) (n : ℕ) : Type 0 where
@@ -223,22 +144,30 @@ pub record CopyFails (x : Connection) (n : ℕ) (why : Errno) : Type 0 where
   pub waits : Waits x n
   pub fits : FaultFits waits.need why
 
-neither : (a b : Bool) → not (a || b) ≡ true → (a ≡ false) × (not b ≡ true)
-neither true b e = absurd cc
-neither false b e = (refl, e)
+-- what a verdict on a frame of this number and body tells
+abbrev pub Tells : State → Jar → ConnNo → Connection → ℕ → Body → Verdict → Type 0
+Tells s jar c x n body Closed = Unit {0}
+Tells s jar c x n body Malformed = Unit {0}
+Tells s jar c x n body (Refused why) = (x.last < n) × IsTrue (refusal_takes why)
+Tells s jar c x n body Attach = Attaches s x n
+Tells s jar c x n body (Join cookie) = TakesOver x n (redeemable jar cookie kind.Fork)
+Tells s jar c x n body (Image cookie) = TakesOver x n (redeemable jar cookie kind.Exec)
+Tells s jar c x n body Fork = Forks s jar x n
+Tells s jar c x n body Ready = Readies jar x n
+Tells s jar c x n body (Cancel cookie) = Cancels x n (cancellable jar cookie c)
+Tells s jar c x n body (Task call) = Opens x n
+Tells s jar c x n body Copy = Copies x n (bytes_in body)
+Tells s jar c x n body (CopyFault why) = CopyFails x n why
 
-other_than : (a b : ℕ) → (a == b) ≡ false → a ≡ b → ⊥
-other_than a b e q = grind (arith, nat_tests)
+-- ---- copies
 
-no_zero : (bytes : List ℕ) → not (list_any (λ b. b == 0) bytes) ≡ true → AllByRecursion (λ b. b ≡ 0 → ⊥) bytes
+no_zero : (bytes : List ℕ) → list_any (λ b. b == 0) bytes ≡ false → AllByRecursion (λ b. b ≡ 0 → ⊥) bytes
 no_zero [] e = tt
 no_zero (b ∷ bytes) e = let n = neither (b == 0) (list_any (λ b. b == 0) bytes) e in (other_than b 0 n.0, no_zero bytes n.1)
 
-is_equal : (a b : ℕ) → (a == b) ≡ true → a ≡ b
-is_equal a b e = grind (arith, nat_tests)
-
-is_less : (a b : ℕ) → nat_lt a b ≡ true → a < b
-is_less a b e = grind (arith, nat_tests)
+not_true : (b : Bool) → not b ≡ true → b ≡ false
+not_true true e = absurd cc
+not_true false e = refl
 
 or_right : (a b : Bool) → a ≡ true → (not a || b) ≡ true → b ≡ true
 or_right true b e h = h
@@ -249,89 +178,123 @@ copy_piece : (need : Need) (body : Body) → is_copy_of need body ≡ true → (
 copy_piece (Bytes addr bytes_len) (GotBytes index err bytes) e zero_is =
     is_equal (length bytes) bytes_len (or_right (err == 0) (length bytes == bytes_len) zero_is (both_second (is_answer err bytes) _ e))
 copy_piece (Text addr limit) (GotText index err bytes) e zero_is =
-    (is_less (length bytes) limit (both_second (is_text_answer err bytes) _ e), no_zero bytes (both_second _ (not (list_any (λ b. b == 0) bytes)) (both_first (is_text_answer err bytes) _ e)))
+    (is_less (length bytes) limit (both_second (is_text_answer err bytes) _ e), no_zero bytes (not_true _ (both_second _ (not (list_any (λ b. b == 0) bytes)) (both_first (is_text_answer err bytes) _ e))))
 copy_piece (Bytes addr bytes_len) _ e zero_is = absurd cc
 copy_piece (Text addr limit) _ e zero_is = absurd cc
 
-bytes_error : (a b c : Bool) → (a || (b && c)) ≡ true → a ≡ false → b ≡ true
-bytes_error true b c e h = absurd cc
-bytes_error false true c e h = refl
-bytes_error false false c e h = absurd cc
+bytes_error : (a b c : Bool) → (a || (b && c)) ≡ true → a ≡ false → b ≡ false → ⊥
+bytes_error true b c e h k = absurd cc
+bytes_error false true c e h k = absurd cc
+bytes_error false false c e h k = absurd cc
 
--- a copy with an error has one that its need can have
-copy_fault : (need : Need) (body : Body) (why : Errno) → is_copy_of need body ≡ true → (error_in body == 0) ≡ false
-    → cond (error_in body == 14) (CopyFault Efault) (CopyFault Enametoolong) ≡ CopyFault why → FaultFits need why
-copy_fault (Bytes addr bytes_len) (GotBytes index err bytes) why e some h =
-    let fourteen : (err == 14) ≡ true = bytes_error (err == 0) (err == 14) _ (both_first (is_answer err bytes) _ e) some in
-    let is : CopyFault Efault ≡ CopyFault why = sym (ap (λ b. cond b (CopyFault Efault) (CopyFault Enametoolong)) fourteen) ∙ h in
-    let same : Efault ≡ why = cc in
-    subst (λ (w : Errno). FaultFits (Bytes addr bytes_len) w) same tt
-copy_fault (Text addr limit) (GotText index err bytes) why e some h = by_test (err == 14) h where
-  by_test : (b : Bool) → cond b (CopyFault Efault) (CopyFault Enametoolong) ≡ CopyFault why → FaultFits (Text addr limit) why
-  by_test true h = let same : Efault ≡ why = cc in subst (λ (w : Errno). FaultFits (Text addr limit) w) same tt
-  by_test false h = let same : Enametoolong ≡ why = cc in subst (λ (w : Errno). FaultFits (Text addr limit) w) same tt
-copy_fault (Bytes addr bytes_len) _ why e some h = absurd cc
-copy_fault (Text addr limit) _ why e some h = absurd cc
+-- a copy with another error than 14 is of a text
+text_fault : (need : Need) (body : Body) → is_copy_of need body ≡ true → (error_in body == 0) ≡ false → (error_in body == 14) ≡ false → FaultFits need Enametoolong
+text_fault (Text addr limit) body e some other = tt
+text_fault (Bytes addr bytes_len) (GotBytes index err bytes) e some other = absurd (bytes_error (err == 0) (err == 14) _ (both_first (is_answer err bytes) _ e) some other)
+text_fault (Bytes addr bytes_len) _ e some other = absurd cc
 
-copies_by : (x : Connection) (n : ℕ) (call : Call) (got : List (List ℕ)) (need : Option Need) (body : Body) → get x.calls n ≡ Some (Gathers call got true)
-    → slice_get (needs_of call) (length got) ≡ need → need_verdict need (length got) body ≡ Copy → Copies x n (bytes_in body)
-copies_by x n call got None body task next e = absurd cc
-copies_by x n call got (Some need) body task next e =
-    let t = passes (is_index (index_in body) (length got) && is_copy_of need body) (copy_by_error (error_in body)) Malformed Copy e (λ q. cc) in
-    let none = passes (error_in body == 0) Copy _ Copy t.1 (λ q. by_code (error_in body == 14) q) in
-    record {
-      waits = record { call = call; got = got; task = task; need = need; next = next };
-      piece = copy_piece need body (both_second (is_index (index_in body) (length got)) (is_copy_of need body) t.0) none.0;
-    } where
-      by_code : (b : Bool) → cond b (CopyFault Efault) (CopyFault Enametoolong) ≡ Copy → ⊥
-      by_code true q = cc
-      by_code false q = cc
+need_tells : (s : State) (jar : Jar) (c : ConnNo) (x : Connection) (n : ℕ) (call : Call) (got : List (List ℕ)) (need : Option Need) (body : Body)
+    → get x.calls n ≡ Some (Gathers call got true) → slice_get (needs_of call) (length got) ≡ need → Tells s jar c x n body (need_verdict need (length got) body)
+need_tells s jar c x n call got None body task next = tt
+need_tells s jar c x n call got (Some need) body task next =
+    let waits : Waits x n = record { call = call; got = got; task = task; need = need; next = next } in
+    by_test (Tells s jar c x n body) (is_index (index_in body) (length got) && is_copy_of need body) (copy_by_error (error_in body)) Malformed
+    (λ passes. let copy = both_second (is_index (index_in body) (length got)) (is_copy_of need body) passes in
+    by_test (Tells s jar c x n body) (error_in body == 0) Copy _
+    (λ zero_is. record { waits = waits; piece = copy_piece need body copy zero_is })
+    (λ some. by_test (Tells s jar c x n body) (error_in body == 14) (CopyFault Efault) (CopyFault Enametoolong)
+    (λ fault. record { waits = waits; fits = tt })
+    (λ other. record { waits = waits; fits = text_fault need body copy some other })))
+    (λ fails. tt)
 
-fails_by : (x : Connection) (n : ℕ) (call : Call) (got : List (List ℕ)) (need : Option Need) (body : Body) (why : Errno) → get x.calls n ≡ Some (Gathers call got true)
-    → slice_get (needs_of call) (length got) ≡ need → need_verdict need (length got) body ≡ CopyFault why → CopyFails x n why
-fails_by x n call got None body why task next e = absurd cc
-fails_by x n call got (Some need) body why task next e =
-    let t = passes (is_index (index_in body) (length got) && is_copy_of need body) (copy_by_error (error_in body)) Malformed (CopyFault why) e (λ q. cc) in
-    let some = otherwise (error_in body == 0) Copy _ (CopyFault why) t.1 (λ q. cc) in
-    record {
-      waits = record { call = call; got = got; task = task; need = need; next = next };
-      fits = copy_fault need body why (both_second (is_index (index_in body) (length got)) (is_copy_of need body) t.0) some.0 some.1;
-    }
+copy_tells : (s : State) (jar : Jar) (c : ConnNo) (x : Connection) (n : ℕ) (task : Option OpenCall) (body : Body) → get x.calls n ≡ task → Tells s jar c x n body (copy_verdict task body)
+copy_tells s jar c x n (Some (Gathers call got true)) body is = need_tells s jar c x n call got (slice_get (needs_of call) (length got)) body is refl
+copy_tells s jar c x n None body is = tt
+copy_tells s jar c x n (Some (Gathers call got false)) body is = tt
+copy_tells s jar c x n (Some (Fails call why)) body is = tt
+copy_tells s jar c x n (Some Answers) body is = tt
 
-copies_of : (x : Connection) (n : ℕ) (task : Option OpenCall) (body : Body) → get x.calls n ≡ task → copy_verdict task body ≡ Copy → Copies x n (bytes_in body)
-copies_of x n (Some (Gathers call got true)) body is e = copies_by x n call got (slice_get (needs_of call) (length got)) body is refl e
-copies_of x n None body is e = absurd cc
-copies_of x n (Some (Gathers call got false)) body is e = absurd cc
-copies_of x n (Some (Fails call why)) body is e = absurd cc
-copies_of x n (Some Answers) body is e = absurd cc
+-- ---- requests
 
-fails_of : (x : Connection) (n : ℕ) (task : Option OpenCall) (body : Body) (why : Errno) → get x.calls n ≡ task → copy_verdict task body ≡ CopyFault why → CopyFails x n why
-fails_of x n (Some (Gathers call got true)) body why is e = fails_by x n call got (slice_get (needs_of call) (length got)) body why is refl e
-fails_of x n None body why is e = absurd cc
-fails_of x n (Some (Gathers call got false)) body why is e = absurd cc
-fails_of x n (Some (Fails call w)) body why is e = absurd cc
-fails_of x n (Some Answers) body why is e = absurd cc
+module _ (s : State) (jar : Jar) (c : ConnNo) (x : Connection) (n : ℕ) (body : Body) where
+  abbrev Told : Verdict → Type 0
+  Told v = Tells s jar c x n body v
 
--- a request has neither verdict
-request_none : (x : Connection) (num : ℕ) (words : List ℕ) (w : Verdict) → Malformed ≢ w → ((e : SpError) → Refused e ≢ w) → ((call : Call) → Task call ≢ w) → call_verdict x num words ≡ w → ⊥
-request_none x num words w bad ne task e = task (call_of num words) (call_passes x num words w bad ne e).0
+  -- a request's number is above the last one, where it isn't malformed
+  numbered : (v : Verdict) → (x.last < n → Told v) → Told (request_verdict x n v)
+  numbered v told = by_test Told (nat_le n x.last) Malformed v (λ old. tt) (λ above. told (is_later n x.last above))
 
-body_copies : (s : State) (x : Connection) (n : ℕ) (body : Body) → body_verdict s x n body ≡ Copy → Copies x n (bytes_in body)
-body_copies s x n (Guest name) e = let r = numbered x n (guest_verdict s x) Copy (λ q. cc) e in absurd (guest_only s x Copy (λ q. cc) (λ why q. cc) (λ q. cc) r.1)
-body_copies s x n (Sys num words) e = let r = numbered x n (call_verdict x num words) Copy (λ q. cc) e in absurd (request_none x num words Copy (λ q. cc) (λ why q. cc) (λ call q. cc) r.1)
-body_copies s x n (GotBytes index err bytes) e = copies_of x n (get x.calls n) (GotBytes index err bytes) refl e
-body_copies s x n (GotText index err bytes) e = copies_of x n (get x.calls n) (GotText index err bytes) refl e
-body_copies s x n _ e = absurd cc
+  call_tells : (num : ℕ) (words : List ℕ) → x.last < n → Told (call_verdict x num words)
+  call_tells num words later =
+      by_test Told (is_fresh x.condition) Malformed _ (λ e. tt) (λ a.
+      by_test Told (is_other_count (wanted_words num) (length words)) Malformed _ (λ e. tt) (λ b.
+      by_test Told (is_later_call num) Malformed _ (λ e. tt) (λ d.
+      by_test Told (not (is_live x.condition)) (Refused InExec) _ (λ e. (later, refl)) (λ live.
+      by_test Told (nat_le OPEN_CALLS (len x.calls)) (Refused TryAgain) (Task (call_of num words)) (λ e. (later, refl)) (λ f.
+      record { later = later; live = holds (is_live x.condition) live })))))
 
-body_fails : (s : State) (x : Connection) (n : ℕ) (why : Errno) (body : Body) → body_verdict s x n body ≡ CopyFault why → CopyFails x n why
-body_fails s x n why (Guest name) e = let r = numbered x n (guest_verdict s x) (CopyFault why) (λ q. cc) e in absurd (guest_only s x (CopyFault why) (λ q. cc) (λ w q. cc) (λ q. cc) r.1)
-body_fails s x n why (Sys num words) e = let r = numbered x n (call_verdict x num words) (CopyFault why) (λ q. cc) e in absurd (request_none x num words (CopyFault why) (λ q. cc) (λ w q. cc) (λ call q. cc) r.1)
-body_fails s x n why (GotBytes index err bytes) e = fails_of x n (get x.calls n) (GotBytes index err bytes) why refl e
-body_fails s x n why (GotText index err bytes) e = fails_of x n (get x.calls n) (GotText index err bytes) why refl e
-body_fails s x n why _ e = absurd cc
+  guest_tells : x.last < n → Told (guest_verdict s x)
+  guest_tells later =
+      by_test Told (not (is_fresh x.condition)) Malformed _ (λ e. tt) (λ fresh.
+      by_test Told (is_none (lowest_unused s.processes FIRST_PROCESS)) (Refused ProcFull) Attach (λ e. (later, refl)) (λ some.
+      let low = some_is (lowest_unused s.processes FIRST_PROCESS) some in
+      record { fresh = fresh_is x.condition fresh; later = later; pid = low.0; lowest = low.1 }))
 
-pub copies : (s : State) (x : Connection) (f : Frame) → verdict_of s x f ≡ Copy → Copies x f.number.0 (bytes_in f.body)
-copies s x f e = body_copies s x f.number.0 f.body (taken s x f Copy (λ q. cc) e)
+  takeover_tells : (cookie : Option Unused) (v : Verdict) → (TakesOver x n cookie → Told v) → x.last < n → Told (takeover_verdict x cookie v)
+  takeover_tells cookie v told later =
+      by_test Told (not (is_fresh x.condition)) Malformed _ (λ e. tt) (λ fresh.
+      by_test Told (is_none cookie) (Refused BadCookie) v (λ e. (later, refl)) (λ some.
+      let there = some_is cookie some in
+      told (record { fresh = fresh_is x.condition fresh; later = later; unused = there.0; there = there.1 })))
 
-pub fails : (s : State) (x : Connection) (f : Frame) (why : Errno) → verdict_of s x f ≡ CopyFault why → CopyFails x f.number.0 why
-fails s x f why e = body_fails s x f.number.0 why f.body (taken s x f (CopyFault why) (λ q. cc) e)
+  fork_tells : x.last < n → Told (fork_verdict s jar x)
+  fork_tells later =
+      by_test Told (is_fresh x.condition) Malformed _ (λ e. tt) (λ a.
+      by_test Told (not (is_live x.condition)) (Refused InExec) _ (λ e. (later, refl)) (λ live.
+      by_test Told (is_full jar) (Refused TryAgain) _ (λ e. (later, refl)) (λ room.
+      by_test Told (is_none (lowest_unused s.processes FIRST_PROCESS)) (Refused ProcFull) Fork (λ e. (later, refl)) (λ some.
+      let low = some_is (lowest_unused s.processes FIRST_PROCESS) some in
+      record { later = later; live = holds (is_live x.condition) live; room = room; pid = low.0; lowest = low.1 }))))
+
+  ready_tells : x.last < n → Told (ready_verdict jar x)
+  ready_tells later =
+      by_test Told (is_fresh x.condition) Malformed _ (λ e. tt) (λ a.
+      by_test Told (not (is_live x.condition)) (Refused InExec) _ (λ e. (later, refl)) (λ live.
+      by_test Told (not (len x.calls == 0) || is_full jar) (Refused TryAgain) Ready (λ e. (later, refl)) (λ quiet.
+      let both = neither (not (len x.calls == 0)) (is_full jar) quiet in
+      record { later = later; live = holds (is_live x.condition) live; quiet = is_equal (len x.calls) 0 (holds (len x.calls == 0) both.0); room = both.1 })))
+
+  cancel_tells : (cookie : Option Unused) (v : Verdict) → (Cancels x n cookie → Told v) → x.last < n → Told (cancel_verdict x cookie v)
+  cancel_tells cookie v told later =
+      by_test Told (is_fresh x.condition) Malformed _ (λ e. tt) (λ a.
+      by_test Told (is_none cookie) (Refused BadCookie) v (λ e. (later, refl)) (λ some.
+      let there = some_is cookie some in told (record { later = later; unused = there.0; there = there.1 })))
+
+body_tells : (s : State) (jar : Jar) (c : ConnNo) (x : Connection) (n : ℕ) (body : Body) → Tells s jar c x n body (body_verdict s jar c x n body)
+body_tells s jar c x n (body.Guest name) = numbered s jar c x n (body.Guest name) _ (guest_tells s jar c x n (body.Guest name))
+body_tells s jar c x n (body.Join cookie name) =
+    numbered s jar c x n (body.Join cookie name) _ (takeover_tells s jar c x n (body.Join cookie name) (redeemable jar cookie kind.Fork) (Join cookie) (λ t. t))
+body_tells s jar c x n (body.Image cookie name) =
+    numbered s jar c x n (body.Image cookie name) _ (takeover_tells s jar c x n (body.Image cookie name) (redeemable jar cookie kind.Exec) (Image cookie) (λ t. t))
+body_tells s jar c x n (body.Sys num words) = numbered s jar c x n (body.Sys num words) _ (call_tells s jar c x n (body.Sys num words) num words)
+body_tells s jar c x n body.Prefork = numbered s jar c x n body.Prefork _ (fork_tells s jar c x n body.Prefork)
+body_tells s jar c x n (body.Cancel cookie) =
+    numbered s jar c x n (body.Cancel cookie) _ (cancel_tells s jar c x n (body.Cancel cookie) (cancellable jar cookie c) (Cancel cookie) (λ t. t))
+body_tells s jar c x n body.Preexec = numbered s jar c x n body.Preexec _ (ready_tells s jar c x n body.Preexec)
+body_tells s jar c x n (GotBytes index err bytes) = copy_tells s jar c x n (get x.calls n) (GotBytes index err bytes) refl
+body_tells s jar c x n (GotText index err bytes) = copy_tells s jar c x n (get x.calls n) (GotText index err bytes) refl
+body_tells s jar c x n _ = tt
+
+-- what the verdict on a frame tells
+pub tells : (s : State) (jar : Jar) (c : ConnNo) (x : Connection) (f : Frame) (v : Verdict) → verdict_of s jar c x f ≡ v → Tells s jar c x f.number.0 f.body v
+tells s jar c x f v e = subst (λ (w : Verdict). Tells s jar c x f.number.0 f.body w) e
+    (by_test (Tells s jar c x f.number.0 f.body) (is_draining x.condition) Closed _ (λ closed. tt) (λ takes. body_tells s jar c x f.number.0 f.body))
+
+pub refuses_takes : (s : State) (jar : Jar) (c : ConnNo) (x : Connection) (f : Frame) (why : SpError) → verdict_of s jar c x f ≡ Refused why → IsTrue (refusal_takes why)
+refuses_takes s jar c x f why e = (tells s jar c x f (Refused why) e).1
+
+pub copies : (s : State) (jar : Jar) (c : ConnNo) (x : Connection) (f : Frame) → verdict_of s jar c x f ≡ Copy → Copies x f.number.0 (bytes_in f.body)
+copies s jar c x f e = tells s jar c x f Copy e
+
+pub fails : (s : State) (jar : Jar) (c : ConnNo) (x : Connection) (f : Frame) (why : Errno) → verdict_of s jar c x f ≡ CopyFault why → CopyFails x f.number.0 why
+fails s jar c x f why e = tells s jar c x f (CopyFault why) e

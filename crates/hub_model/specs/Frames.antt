@@ -1,6 +1,8 @@
 -- The frames that the server sends.
 use Rattle.std.specs.Prelude.{ℕ, ◌+◌, Bool, true, false, List, [], ◌∷◌, ◌++◌, Option, None, Some}
 use Rattle.sp_base.specs.declared.names.Answer.{Answer}
+use Rattle.sp_base.specs.declared.names.Cookie.{Cookie}
+use Rattle.sp_base.specs.declared.names.Pid.{Pid}
 use Rattle.sp_base.specs.declared.names.ReqNo.{ReqNo}
 use Rattle.sp_base.specs.declared.names.SpError.{SpError}
 use Rattle.sp_base.specs.declared.names.SpError.TheVariants.{Malformed}
@@ -12,9 +14,29 @@ use Rattle.sp_frames.specs.declared.frame.Frame.{Frame}
 use Rattle.kern_model.specs.declared.outcome.OutPiece.{OutPiece}
 use Rattle.kern_model.specs.declared.outcome.Outcome.{Outcome}
 
--- the response of a handshake
+-- the response of a guest's handshake
 abbrev pub hello : ReqNo → ℕ → Frame
 hello r pid = record { number = r; body = body.Hello (record { 0 = pid }) }
+
+-- the response of a child's handshake
+abbrev pub joined : ReqNo → Pid → Frame
+joined r pid = record { number = r; body = body.Joined pid }
+
+-- the response of the handshake of a process's next program, with the place of its exec
+abbrev pub imaged : ReqNo → Pid → ℕ → Frame
+imaged r pid place = record { number = r; body = body.Imaged pid (record { 0 = place }) }
+
+-- the response of a fork: the cookie that hands the child over, the place of the fork, and the child
+abbrev pub forked : ReqNo → Cookie → ℕ → Pid → Frame
+forked r cookie place child = record { number = r; body = body.Forked cookie (record { 0 = place }) child }
+
+-- the response of what takes a cookie back
+abbrev pub cancelled : ReqNo → Frame
+cancelled r = record { number = r; body = body.Cancelled }
+
+-- the response of a process that is to go on as its next program: the cookie that hands it over
+abbrev pub exec_ready : ReqNo → Cookie → Frame
+exec_ready r cookie = record { number = r; body = body.ExecReady cookie }
 
 -- an ask for what a call reads, by its index
 abbrev pub ask_body : ℕ → Need → Body

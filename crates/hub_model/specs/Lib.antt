@@ -2,10 +2,15 @@ pub mod State
 pub mod Code
 pub mod Verdict
 pub mod Frames
+pub mod Journal
+pub mod Cookies
 pub mod Ends
 pub mod Requests
 pub mod Work
 pub mod Machine
 pub mod Run
+pub mod Owners
 pub mod Sound
+pub mod Inherit
+pub mod Closing
 pub mod Task

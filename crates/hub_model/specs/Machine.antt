@@ -37,7 +37,7 @@ halt m = if any_speaks m then (reply.NotQuiet, m) else (reply.Closed, record m {
 -- an event happens while the server hasn't halted; whether there is memory matters where a call would be performed
 abbrev pub played_running : Bool → Machine → Event → Played
 played_running memory m (Opened c) = open_new m c
-played_running memory m (Frame c f salt) = frame_at m c f (get m.connections c.0)
+played_running memory m (Frame c f salt) = frame_at m c f salt (get m.connections c.0)
 played_running memory m (Work c r) = work_at memory m c r (get m.connections c.0)
 played_running memory m (Take c) = take_at m c (get m.connections c.0)
 played_running memory m (Ended c finish) = end_at m c finish (get m.connections c.0)

@@ -6,6 +6,8 @@ use Rattle.sp_base.specs.declared.names.ConnNo.{ConnNo}
 use Rattle.sp_base.specs.declared.names.Pid.{Pid}
 use Rattle.sp_frames.specs.declared.frame.Frame.{Frame}
 use Rattle.kern_model.specs.declared.journal.Entry.{Entry}
+use Rattle.sp_fork.specs.Jar.{Jar, empty_jar}
+use Rattle.hub_model.specs.declared.handover.Handover.{Handover}
 use Rattle.hub_model.specs.declared.state.Condition.{Condition}
 use Rattle.hub_model.specs.declared.state.Condition.TheVariants.{Fresh, Live, InExec, Draining}
 use Rattle.hub_model.specs.declared.state.OpenCall.{OpenCall}
@@ -21,17 +23,28 @@ pub record Connection : Type 0 where
   pub queue : List Frame
 
 -- the version that is spoken; the journal of the kernel, whose state is the one that the journal leaves; the connections that
--- aren't over, by number; the highest number that was ever opened; and whether the server has halted
+-- aren't over, by number; the unused cookies; all that was ever done to hand processes over, the newest first; the highest number
+-- that was ever opened; and whether the server has halted
 pub record Machine : Type 0 where
   pub version : Version
   pub journal : List Entry
   pub connections : FinMap nat_cmp Connection
+  pub cookies : Jar
+  pub handovers : List Handover
   pub opened : Option ℕ
   pub halted : Bool
 
 -- a machine to which nothing happened yet
 abbrev pub fresh_machine : Version → Machine
-fresh_machine version = record { version = version; journal = []; connections = empty; opened = None; halted = false }
+fresh_machine version = record {
+  version = version;
+  journal = [];
+  connections = empty;
+  cookies = empty_jar;
+  handovers = [];
+  opened = None;
+  halted = false;
+}
 
 -- a connection that was just opened
 abbrev pub fresh_connection : Connection
