@@ -1,0 +1,13 @@
+pub mod Lists
+pub mod Frames
+pub mod Keys
+pub mod Stages
+pub mod Steps
+pub mod Means
+pub mod Lanes
+pub mod Kept
+pub mod Ledgers
+pub mod Requests
+pub mod Works
+pub mod Ends
+pub mod Runs
