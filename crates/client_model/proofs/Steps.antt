@@ -6,39 +6,44 @@ use Rattle.sp_base.specs.declared.call.Call.{Call}
 use Rattle.sp_base.specs.declared.names.Caller.{Caller}
 use Rattle.sp_base.specs.declared.names.ReqNo.{ReqNo}
 use Rattle.sp_copy.specs.declared.part.Part.{Part}
+use Rattle.sp_frames.specs.declared.frame.Body.{Body}
+use Rattle.sp_frames.specs.declared.frame.Body.TheVariants as body
 use Rattle.sp_frames.specs.declared.frame.Frame.{Frame}
 use Rattle.client_model.specs.Asks.{goes_on}
 use Rattle.client_model.specs.Fitness.{may_come}
 use Rattle.client_model.specs.Machine.{played, lent, Plays, take_from, take_in, frame_by, frame_if, gone_by}
-use Rattle.client_model.specs.Requests.{is_busy, over, start_now, start_by, collected, collect_at, collect_by, collect_unanswered, closed}
+use Rattle.client_model.specs.Requests.{is_busy, over, start_now, start_by, call_body, wanted, want_body, collected, collect_at, collect_by, collect_unanswered, closed}
 use Rattle.client_model.specs.State.{Open, Client, Played}
 use Rattle.client_model.specs.declared.event.Event.{Event}
 use Rattle.client_model.specs.declared.event.Event.TheVariants as event
 use Rattle.client_model.specs.declared.event.Reply.{Reply}
 use Rattle.client_model.specs.declared.event.Reply.TheVariants as reply
+use Rattle.client_model.specs.declared.event.Want.{Want}
 use Rattle.client_model.specs.declared.request.Ending.{Ending}
 use Rattle.client_model.specs.declared.request.Ending.TheVariants as ending
+use Rattle.client_model.specs.declared.request.Request.{Request}
+use Rattle.client_model.specs.declared.request.Request.TheVariants as request
 use Rattle.client_model.specs.declared.request.Response.{Response}
 
 -- what holds of each case of a start holds of it
-pub record StartCases (P : Played → Type 0) (k : Client) (call : Call) (mem : List Part) : Type 0 where
+pub record StartCases (P : Played → Type 0) (k : Client) (asks : Request) (says : Body) (mem : List Part) : Type 0 where
   pub over : (e : Ending) → k.ending ≡ Some e → P (over e mem, k)
   pub not_yet : P (reply.NotYet mem, k)
   pub busy : P (reply.Busy mem, k)
-  pub starts : P (start_now k call mem)
+  pub starts : P (start_now k asks says mem)
 
-pub start_cases : (P : Played → Type 0) (k : Client) (call : Call) (mem : List Part) → StartCases P k call mem → P (start_by k call mem k.ending)
-start_cases P k call mem cases = by_ending k.ending refl
+pub start_cases : (P : Played → Type 0) (k : Client) (asks : Request) (says : Body) (mem : List Part) → StartCases P k asks says mem → P (start_by k asks says mem k.ending)
+start_cases P k asks says mem cases = by_ending k.ending refl
   where
-    by_busy : (b : Bool) → P (cond b (reply.Busy mem, k) (start_now k call mem))
+    by_busy : (b : Bool) → P (cond b (reply.Busy mem, k) (start_now k asks says mem))
     by_busy true = cases.busy
     by_busy false = cases.starts
 
-    by_ready : (b : Bool) → P (cond (not b) (reply.NotYet mem, k) (cond (is_busy k) (reply.Busy mem, k) (start_now k call mem)))
+    by_ready : (b : Bool) → P (cond (not b) (reply.NotYet mem, k) (cond (is_busy k) (reply.Busy mem, k) (start_now k asks says mem)))
     by_ready false = cases.not_yet
     by_ready true = by_busy (is_busy k)
 
-    by_ending : (e : Option Ending) → k.ending ≡ e → P (start_by k call mem e)
+    by_ending : (e : Option Ending) → k.ending ≡ e → P (start_by k asks says mem e)
     by_ending None is = by_ready k.ready
     by_ending (Some e) is = cases.over e is
 
@@ -68,7 +73,7 @@ pub record CollectCases (P : Played → Type 0) (k : Client) (r : ReqNo) : Type 
   pub unknown : P (reply.Unknown, k)
   pub not_yet : P (reply.NotYet [], k)
   pub over : (x : Open) (e : Ending) → get k.requests r.0 ≡ Some x → P (over e x.delivery.mem, closed k r)
-  pub done : (x : Open) (what : Response) → get k.requests r.0 ≡ Some x → P (collected what x.delivery, closed k r)
+  pub done : (x : Open) (what : Response) → get k.requests r.0 ≡ Some x → x.response ≡ Some what → P (collected what x.delivery, closed k r)
 
 pub collect_cases : (P : Played → Type 0) (k : Client) (r : ReqNo) → CollectCases P k r → P (collect_at k r (get k.requests r.0))
 collect_cases P k r cases = by_found (get k.requests r.0) refl
@@ -77,13 +82,13 @@ collect_cases P k r cases = by_found (get k.requests r.0) refl
     by_ending x at None = cases.not_yet
     by_ending x at (Some e) = cases.over x e at
 
-    by_response : (x : Open) → get k.requests r.0 ≡ Some x → (o : Option Response) → P (collect_by k r x o)
-    by_response x at None = by_ending x at k.ending
-    by_response x at (Some what) = cases.done x what at
+    by_response : (x : Open) → get k.requests r.0 ≡ Some x → (o : Option Response) → x.response ≡ o → P (collect_by k r x o)
+    by_response x at None none = by_ending x at k.ending
+    by_response x at (Some what) has = cases.done x what at has
 
     by_found : (o : Option Open) → get k.requests r.0 ≡ o → P (collect_at k r o)
     by_found None at = cases.unknown
-    by_found (Some x) at = by_response x at x.response
+    by_found (Some x) at = by_response x at x.response refl
 
 -- what holds of each case of a frame that is handed out holds of it
 pub record TakeCases (P : Played → Type 0) (k : Client) : Type 0 where
@@ -124,19 +129,32 @@ is_out _ = false
 abbrev HandsOutNone : Reply → Type 0
 HandsOutNone answer = (f : Frame) → answer ≡ reply.Out f → ⊥
 
+ended_hands_out_none : (e : Ending) (mem : List Part) → HandsOutNone (over e mem)
+ended_hands_out_none ending.Gone mem f is = cc
+ended_hands_out_none ending.Broken mem f is = cc
+
+asking_hands_out_none : (k : Client) (asks : Request) (says : Body) (mem : List Part) → HandsOutNone (start_by k asks says mem k.ending).0
+asking_hands_out_none k asks says mem = start_cases (λ p. HandsOutNone p.0) k asks says mem (record {
+  over = λ e is. ended_hands_out_none e mem;
+  not_yet = λ f e. cc;
+  busy = λ f e. cc;
+  starts = λ f e. cc;
+})
+
 pub start_hands_out_none : (k : Client) (caller : Caller) (call : Call) (mem : List Part) (answer : Reply) (new : Client) (f : Frame) → Plays k (event.Start caller call mem) answer new → answer ≡ reply.Out f → ⊥
 start_hands_out_none k caller call mem answer new f plays =
     plays_cases (λ a n. a ≡ reply.Out f → ⊥) k (event.Start caller call mem) answer new
-    (start_cases (λ p. p.0 ≡ reply.Out f → ⊥) k call mem (record {
-      over = λ e is. ended e;
-      not_yet = λ e. cc;
-      busy = λ e. cc;
-      starts = λ e. cc;
-    })) (λ e. cc) plays
-  where
-    ended : (e : Ending) → over e mem ≡ reply.Out f → ⊥
-    ended ending.Gone is = cc
-    ended ending.Broken is = cc
+    (asking_hands_out_none k (request.Call call) (call_body call) mem f) (λ e. cc) plays
+
+pub prefork_hands_out_none : (k : Client) (caller : Caller) (want : Want) (answer : Reply) (new : Client) (f : Frame) → Plays k (event.Prefork caller want) answer new → answer ≡ reply.Out f → ⊥
+prefork_hands_out_none k caller want answer new f plays =
+    plays_cases (λ a n. a ≡ reply.Out f → ⊥) k (event.Prefork caller want) answer new
+    (asking_hands_out_none k (wanted want) (want_body want) [] f) (λ e. cc) plays
+
+pub preexec_hands_out_none : (k : Client) (caller : Caller) (answer : Reply) (new : Client) (f : Frame) → Plays k (event.Preexec caller) answer new → answer ≡ reply.Out f → ⊥
+preexec_hands_out_none k caller answer new f plays =
+    plays_cases (λ a n. a ≡ reply.Out f → ⊥) k (event.Preexec caller) answer new
+    (asking_hands_out_none k request.Preexec body.Preexec [] f) (λ e. cc) plays
 
 pub frame_hands_out_none : (k : Client) (came : Frame) (answer : Reply) (new : Client) (f : Frame) → Plays k (event.Frame came) answer new → answer ≡ reply.Out f → ⊥
 frame_hands_out_none k came answer new f plays =

@@ -12,7 +12,7 @@ use Rattle.sp_frames.specs.declared.frame.Body.{Body}
 use Rattle.sp_frames.specs.declared.frame.Body.TheVariants as body
 use Rattle.client_model.specs.Asks.{goes_on}
 use Rattle.client_model.specs.Machine.{played, Plays}
-use Rattle.client_model.specs.Requests.{over, collected}
+use Rattle.client_model.specs.Requests.{over, start_by, call_body, wanted, want_body, collected}
 use Rattle.client_model.specs.Run.{Exchange, Runs}
 use Rattle.client_model.specs.State.{Open, Client}
 use Rattle.client_model.specs.Told.{is_refusal, number_given, numbers_given}
@@ -22,6 +22,8 @@ use Rattle.client_model.specs.declared.event.Reply.{Reply}
 use Rattle.client_model.specs.declared.event.Reply.TheVariants as reply
 use Rattle.client_model.specs.declared.request.Ending.{Ending}
 use Rattle.client_model.specs.declared.request.Ending.TheVariants as ending
+use Rattle.client_model.specs.declared.request.Request.{Request}
+use Rattle.client_model.specs.declared.request.Request.TheVariants as request
 use Rattle.client_model.specs.declared.request.Response.{Response}
 use Rattle.client_model.specs.declared.request.Response.TheVariants as response
 use Rattle.client_model.proofs.Steps.{start_cases, frame_cases, collect_cases, take_cases, gone_cases, plays_cases}
@@ -59,16 +61,25 @@ over_goes k new ending.Broken mem last same = record { numbers = inr (refl, last
 
 collected_goes : (k new : Client) (what : Response) (d : Delivery) → new.last ≡ k.last → new.ending ≡ k.ending → Goes k (collected what d) new
 collected_goes k new (response.Joined pid) d last same = record { numbers = inr (refl, last); ending = λ e is. same ∙ is; refusal = λ is. absurd (cc) }
+collected_goes k new (response.Imaged pid place) d last same = record { numbers = inr (refl, last); ending = λ e is. same ∙ is; refusal = λ is. absurd (cc) }
+collected_goes k new (response.Forked cookie place pid) d last same = record { numbers = inr (refl, last); ending = λ e is. same ∙ is; refusal = λ is. absurd (cc) }
+collected_goes k new response.Cancelled d last same = record { numbers = inr (refl, last); ending = λ e is. same ∙ is; refusal = λ is. absurd (cc) }
+collected_goes k new (response.ExecReady cookie) d last same = record { numbers = inr (refl, last); ending = λ e is. same ∙ is; refusal = λ is. absurd (cc) }
 collected_goes k new (response.Answered answer) d last same = record { numbers = inr (refl, last); ending = λ e is. same ∙ is; refusal = λ is. absurd (cc) }
 collected_goes k new (response.Refused why) d last same = record { numbers = inr (refl, last); ending = λ e is. same ∙ is; refusal = λ is. absurd (cc) }
 
-played_goes : (k : Client) (e : Event) → Goes k (played k e).0 (played k e).1
-played_goes k (event.Start caller call mem) = start_cases (λ p. Goes k p.0 p.1) k call mem (record {
+start_goes : (k : Client) (asks : Request) (says : Body) (mem : List Part) → let p = start_by k asks says mem k.ending in Goes k p.0 p.1
+start_goes k asks says mem = start_cases (λ p. Goes k p.0 p.1) k asks says mem (record {
   over = λ e is. over_goes k k e mem refl refl;
   not_yet = stays k (reply.NotYet mem) refl;
   busy = stays k (reply.Busy mem) refl;
   starts = record { numbers = inl (refl, refl); ending = λ e is. is; refusal = λ is. absurd (cc) };
 })
+
+played_goes : (k : Client) (e : Event) → Goes k (played k e).0 (played k e).1
+played_goes k (event.Start caller call mem) = start_goes k (request.Call call) (call_body call) mem
+played_goes k (event.Prefork caller want) = start_goes k (wanted want) (want_body want) []
+played_goes k (event.Preexec caller) = start_goes k request.Preexec body.Preexec []
 played_goes k (event.Frame f) = frame_cases (λ p. Goes k p.0 p.1) k f (record {
   nothing = stays k reply.Nothing refl;
   bad = λ whole. record { numbers = inr (refl, refl); ending = λ e is. no_ending k whole e _ is; refusal = λ is. absurd (cc) };
@@ -82,7 +93,7 @@ played_goes k (event.Collect r) = collect_cases (λ p. Goes k p.0 p.1) k r (reco
   unknown = stays k reply.Unknown refl;
   not_yet = stays k (reply.NotYet []) refl;
   over = λ x e at. over_goes k _ e x.delivery.mem refl refl;
-  done = λ x what at. collected_goes k _ what x.delivery refl refl;
+  done = λ x what at has. collected_goes k _ what x.delivery refl refl;
 })
 played_goes k event.Take = take_cases (λ p. Goes k p.0 p.1) k (record {
   nothing = stays k reply.Nothing refl;

@@ -44,6 +44,10 @@ answer_ask k r x index ask = record (with_request k r.0 (record x { asked = x.as
 abbrev pub respond : Client → ReqNo → Open → Response → Client
 respond k r x what = with_request k r.0 (record x { response = Some what })
 
+-- a request has its response, with which the client speaks for a process
+abbrev pub welcome : Client → ReqNo → Open → Response → Client
+welcome k r x what = record (respond k r x what) { ready = true }
+
 -- what a frame does that the server may send: an ask is answered, bytes are written into the caller's memory, and a response is kept
 abbrev pub goes_on : Client → ReqNo → Open → Body → Client
 goes_on k r x (body.AskBytes index addr len) = answer_ask k r x index (body.AskBytes index addr len)
@@ -52,5 +56,10 @@ goes_on k r x (body.Put index addr bytes) =
     with_request k r.0 (record x { delivery = put_piece x.delivery (record { addr = addr; bytes = bytes }) })
 goes_on k r x (body.Answered answer) = respond k r x (response.Answered answer)
 goes_on k r x (body.Refused kind why) = respond k r x (response.Refused why)
-goes_on k r x (body.Hello pid) = record (respond k r x (response.Joined pid)) { ready = true }
+goes_on k r x (body.Hello pid) = welcome k r x (response.Joined pid)
+goes_on k r x (body.Joined pid) = welcome k r x (response.Joined pid)
+goes_on k r x (body.Imaged pid place) = welcome k r x (response.Imaged pid place)
+goes_on k r x (body.Forked cookie place pid) = respond k r x (response.Forked cookie place pid)
+goes_on k r x body.Cancelled = respond k r x response.Cancelled
+goes_on k r x (body.ExecReady cookie) = respond k r x (response.ExecReady cookie)
 goes_on k r x _ = k

@@ -1,5 +1,5 @@
 -- Which frames a server may send for a request that is open and unanswered: one table, by the request and the frame.
-use Rattle.std.specs.Prelude.{ℕ, ◌+◌, ◌==◌, ◌&&◌, nat_le, not, Bool, true, false, List, length, Option, None, Some, is_some, slice_get}
+use Rattle.std.specs.Prelude.{ℕ, ◌+◌, ◌==◌, ◌&&◌, ◌||◌, nat_le, not, Bool, true, false, List, length, Option, None, Some, is_some, slice_get}
 use Rattle.std.specs.List.{list_any}
 use Rattle.sp_base.specs.Needs.{needs_of, outs_of}
 use Rattle.sp_base.specs.declared.call.Call.{Call}
@@ -39,16 +39,32 @@ fits_call call asked (body.Answered answer) = true
 fits_call call asked (body.Refused kind why) = kind == 1
 fits_call call asked _ = false
 
--- the server may send this for a handshake
-abbrev pub fits_handshake : Body → Bool
-fits_handshake (body.Hello pid) = true
-fits_handshake (body.Refused kind why) = kind == 0
-fits_handshake _ = false
+-- the server answers this to a request that isn't a call
+abbrev pub is_response : Request → Body → Bool
+is_response request.Attach (body.Hello pid) = true
+is_response request.Join (body.Joined pid) = true
+is_response request.Image (body.Imaged pid place) = true
+is_response request.Prefork (body.Forked cookie place pid) = true
+is_response request.Cancel body.Cancelled = true
+is_response request.Preexec (body.ExecReady cookie) = true
+is_response _ _ = false
+
+-- the type of a request that isn't a call, as its error names it
+abbrev pub kind_of : Request → ℕ
+kind_of request.Prefork = 5
+kind_of request.Cancel = 5
+kind_of request.Preexec = 6
+kind_of _ = 0
+
+-- an error of this type
+abbrev pub is_error : ℕ → Body → Bool
+is_error kind (body.Refused k why) = k == kind
+is_error kind _ = false
 
 -- the server may send this for a request, by what was asked
 abbrev pub fits_request : Request → List ℕ → Body → Bool
-fits_request request.Attach asked what = fits_handshake what
 fits_request (request.Call call) asked what = fits_call call asked what
+fits_request asks asked what = is_response asks what || is_error (kind_of asks) what
 
 -- no response came yet
 abbrev pub is_unanswered : Open → Bool

@@ -7,7 +7,7 @@ use Rattle.sp_frames.specs.declared.frame.Body.TheVariants as body
 use Rattle.sp_frames.specs.declared.frame.Frame.{Frame}
 use Rattle.client_model.specs.Asks.{goes_on}
 use Rattle.client_model.specs.Fitness.{may_come}
-use Rattle.client_model.specs.Requests.{start_by, collect_at}
+use Rattle.client_model.specs.Requests.{start_by, call_body, wanted, want_body, collect_at}
 use Rattle.client_model.specs.State.{Open, Client, Played}
 use Rattle.client_model.specs.declared.event.Event.{Event}
 use Rattle.client_model.specs.declared.event.Event.TheVariants as event
@@ -15,6 +15,7 @@ use Rattle.client_model.specs.declared.event.Reply.{Reply}
 use Rattle.client_model.specs.declared.event.Reply.TheVariants as reply
 use Rattle.client_model.specs.declared.request.Ending.{Ending}
 use Rattle.client_model.specs.declared.request.Ending.TheVariants as ending
+use Rattle.client_model.specs.declared.request.Request.TheVariants as request
 
 -- a frame does what it does, for the open request that it names
 abbrev pub take_in : Client → Frame → Option Open → Played
@@ -43,7 +44,9 @@ gone_by k None = record k { ending = Some ending.Gone }
 
 -- an event happens
 abbrev pub played : Client → Event → Played
-played k (event.Start caller call mem) = start_by k call mem k.ending
+played k (event.Start caller call mem) = start_by k (request.Call call) (call_body call) mem k.ending
+played k (event.Prefork caller want) = start_by k (wanted want) (want_body want) [] k.ending
+played k (event.Preexec caller) = start_by k request.Preexec body.Preexec [] k.ending
 played k (event.Frame f) = frame_by k f k.ending
 played k (event.Collect r) = collect_at k r (get k.requests r.0)
 played k event.Take = take_from k k.queue
@@ -68,6 +71,8 @@ frame_takes what _ = false
 -- an event's reply takes memory, without which it is NoMemory and nothing changes
 abbrev pub takes_memory : Event → Reply → Bool
 takes_memory (event.Start caller call mem) answer = start_takes answer
+takes_memory (event.Prefork caller want) answer = start_takes answer
+takes_memory (event.Preexec caller) answer = start_takes answer
 takes_memory (event.Frame f) answer = frame_takes f.body answer
 takes_memory _ answer = false
 

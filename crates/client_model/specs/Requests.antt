@@ -7,13 +7,16 @@ use Rattle.sp_base.specs.declared.names.ReqNo.{ReqNo}
 use Rattle.sp_copy.specs.Delivering.{answer_after}
 use Rattle.sp_copy.specs.declared.delivery.Delivery.{Delivery}
 use Rattle.sp_copy.specs.declared.part.Part.{Part}
+use Rattle.sp_frames.specs.declared.frame.Body.{Body}
 use Rattle.sp_frames.specs.declared.frame.Body.TheVariants as body
-use Rattle.sp_frames.specs.declared.frame.Frame.{Frame}
-use Rattle.client_model.specs.State.{Open, Client, Played, fresh_request}
+use Rattle.client_model.specs.State.{Open, Client, Played, fresh_request, request_frame}
 use Rattle.client_model.specs.declared.event.Reply.{Reply}
 use Rattle.client_model.specs.declared.event.Reply.TheVariants as reply
+use Rattle.client_model.specs.declared.event.Want.{Want}
+use Rattle.client_model.specs.declared.event.Want.TheVariants.{Make, Cancel}
 use Rattle.client_model.specs.declared.request.Ending.{Ending}
 use Rattle.client_model.specs.declared.request.Ending.TheVariants.{Gone, Broken}
+use Rattle.client_model.specs.declared.request.Request.{Request}
 use Rattle.client_model.specs.declared.request.Request.TheVariants as request
 use Rattle.client_model.specs.declared.request.Response.{Response}
 use Rattle.client_model.specs.declared.request.Response.TheVariants as response
@@ -27,18 +30,28 @@ highest_number = 2 ^ 64 - 1
 abbrev pub is_busy : Client → Bool
 is_busy k = nat_le OPEN_REQUESTS (len k.requests) || (k.last == highest_number)
 
--- the frame of a system call
-abbrev pub call_frame : ℕ → Call → Frame
-call_frame n call = record { number = record { 0 = n }; body = body.Sys (call_number call) (call_words call) }
+-- what the frame of a system call says
+abbrev pub call_body : Call → Body
+call_body call = body.Sys (call_number call) (call_words call)
 
--- a call starts under the next number: its frame is queued, and its request is open with the caller's memory
-abbrev pub start_now : Client → Call → List Part → Played
-start_now k call mem = (
+-- what is asked by a want
+abbrev pub wanted : Want → Request
+wanted Make = request.Prefork
+wanted (Cancel cookie) = request.Cancel
+
+-- what the frame of a want says
+abbrev pub want_body : Want → Body
+want_body Make = body.Prefork
+want_body (Cancel cookie) = body.Cancel cookie
+
+-- a request starts under the next number: a frame that says it is queued, and it is open with the caller's memory
+abbrev pub start_now : Client → Request → Body → List Part → Played
+start_now k asks says mem = (
   reply.Started (record { 0 = k.last + 1 }),
   record k {
     last = k.last + 1;
-    requests = insert k.requests (k.last + 1) (fresh_request (request.Call call) mem);
-    queue = k.queue ++ call_frame (k.last + 1) call ∷ [];
+    requests = insert k.requests (k.last + 1) (fresh_request asks mem);
+    queue = k.queue ++ request_frame (k.last + 1) says ∷ [];
   },
 )
 
@@ -47,18 +60,22 @@ abbrev pub over : Ending → List Part → Reply
 over Gone mem = reply.Lost mem
 over Broken mem = reply.Broken mem
 
--- a call starts, where the talk with the server goes on
-abbrev pub start_by : Client → Call → List Part → Option Ending → Played
-start_by k call mem (Some ending) = (over ending mem, k)
-start_by k call mem None =
+-- a request starts, where the talk with the server goes on
+abbrev pub start_by : Client → Request → Body → List Part → Option Ending → Played
+start_by k asks says mem (Some ending) = (over ending mem, k)
+start_by k asks says mem None =
     if not k.ready then (reply.NotYet mem, k)
     else if is_busy k then (reply.Busy mem, k)
-    else start_now k call mem
+    else start_now k asks says mem
 
 -- what is collected of a request with its response, and with what was delivered for it
 abbrev pub collected : Response → Delivery → Reply
 collected (response.Joined pid) d = reply.Joined pid None
+collected (response.Imaged pid place) d = reply.Joined pid (Some place)
 collected (response.Answered answer) d = reply.Got (answer_after d.whole answer) d.mem
+collected (response.Forked cookie place pid) d = reply.Forked cookie place pid
+collected response.Cancelled d = reply.Cancelled
+collected (response.ExecReady cookie) d = reply.ExecReady cookie
 collected (response.Refused why) d = reply.Refused why d.mem
 
 -- the client after a request is collected

@@ -5,15 +5,16 @@ use Rattle.std.specs.FinMap.{FinMap, empty, insert}
 use Rattle.sp_copy.specs.declared.delivery.Delivery.{Delivery}
 use Rattle.sp_copy.specs.declared.part.Part.{Part}
 use Rattle.sp_frames.specs.Grammar.{IsName}
+use Rattle.sp_frames.specs.declared.frame.Body.{Body}
 use Rattle.sp_frames.specs.declared.frame.Body.TheVariants as body
 use Rattle.sp_frames.specs.declared.frame.Frame.{Frame}
 use Rattle.sp_frames.specs.declared.version.Version.{Version}
 use Rattle.client_model.specs.declared.event.Hello.{Hello}
-use Rattle.client_model.specs.declared.event.Hello.TheVariants.{Guest}
+use Rattle.client_model.specs.declared.event.Hello.TheVariants as hello
 use Rattle.client_model.specs.declared.event.Reply.{Reply}
 use Rattle.client_model.specs.declared.request.Ending.{Ending}
 use Rattle.client_model.specs.declared.request.Request.{Request}
-use Rattle.client_model.specs.declared.request.Request.TheVariants.{Attach}
+use Rattle.client_model.specs.declared.request.Request.TheVariants as request
 use Rattle.client_model.specs.declared.request.Response.{Response}
 
 -- a request that isn't collected yet: what was asked; the caller's memory as it is, and whether all of the bytes that came were
@@ -47,13 +48,31 @@ fresh_request request mem = record {
   response = None;
 }
 
--- the hello names a guest as a frame can carry it
+-- the frame of a request, by its number and what it says
+abbrev pub request_frame : ℕ → Body → Frame
+request_frame n says = record { number = record { 0 = n }; body = says }
+
+-- the hello has a name as a frame can carry it
 abbrev pub HasName : Hello → Type 0
-HasName (Guest name) = IsName name
+HasName (hello.Guest name) = IsName name
+HasName (hello.Join cookie name) = IsName name
+HasName (hello.Image cookie name) = IsName name
+
+-- what a handshake asks
+abbrev pub asked_by : Hello → Request
+asked_by (hello.Guest name) = request.Attach
+asked_by (hello.Join cookie name) = request.Join
+asked_by (hello.Image cookie name) = request.Image
+
+-- what the frame of a handshake says
+abbrev pub said_by : Hello → Body
+said_by (hello.Guest name) = body.Guest name
+said_by (hello.Join cookie name) = body.Join cookie name
+said_by (hello.Image cookie name) = body.Image cookie name
 
 -- the frame of a handshake
 abbrev pub hello_frame : Hello → Frame
-hello_frame (Guest name) = record { number = record { 0 = 1 }; body = body.Guest name }
+hello_frame hello = request_frame 1 (said_by hello)
 
 -- a client that begins: its handshake, which is request 1, is queued
 abbrev pub fresh_client : Version → Hello → Client
@@ -61,7 +80,7 @@ fresh_client version hello = record {
   version = version;
   ready = false;
   last = 1;
-  requests = insert empty 1 (fresh_request Attach []);
+  requests = insert empty 1 (fresh_request (asked_by hello) []);
   queue = hello_frame hello ∷ [];
   ending = None;
 }

@@ -2,7 +2,7 @@ ghost use Rattle.std.specs.Prelude.{◌≡◌};
 ghost use Rattle.client_model.specs.Requests.{over};
 
 use crate::event::Reply;
-use sp_base::{Answer, Call, Pid, SpError};
+use sp_base::{Answer, Call, Cookie, Pid, Place, SpError};
 use sp_copy::Mem;
 
 /// How many requests of one client are open at the most.
@@ -13,17 +13,39 @@ pub const OPEN_REQUESTS: u64 = 64;
 pub enum Request {
     /// A process of its own, by the handshake.
     Attach,
+    /// The child that a cookie hands over, by the handshake.
+    Join,
+    /// The process that a cookie hands over to its next program, by the handshake.
+    Image,
     /// A system call.
     Call(Call),
+    /// A child, and a cookie that hands it over.
+    Prefork,
+    /// That a cookie is taken back.
+    Cancel,
+    /// A cookie with which the process goes on as its next program.
+    Preexec,
 }
 
 /// What the server answered to a request.
 #[derive(Clone, Copy, Debug, PartialEq, Eq)]
 pub enum Response {
-    /// The client speaks for a process.
+    /// The client speaks for a process, which was made for it or is a child.
     Joined(Pid),
+    /// The client speaks for a process as its next program; the place is that of its exec.
+    Imaged(Pid, Place),
     /// The call was performed.
     Answered(Answer),
+    /// The process has a child, which the cookie hands over; the place is that of the fork.
+    Forked {
+        cookie: Cookie,
+        place: Place,
+        pid: Pid,
+    },
+    /// The cookie was taken back.
+    Cancelled,
+    /// The process can go on as its next program, by the cookie.
+    ExecReady(Cookie),
     /// The request was refused.
     Refused(SpError),
 }

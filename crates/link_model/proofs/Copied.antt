@@ -33,12 +33,12 @@ waiting a got = connection_at a (a.link.client.last + 1) (Some (Gathers a.call g
 
 -- what is read of a need is what its copy is looked at by
 copy_verdict_is : (a : Asked) (s : State) (got : List (List ℕ)) (need : Need) (read : Result (List ℕ) CopyFault) → slice_get (needs_of a.call) (length got) ≡ Some need
-    → read_of a.mem need ≡ read → verdict_of s (waiting a got) (copy_frame a (length got) need) ≡ need_verdict (Some need) (length got) (copy_by need (length got) read)
+    → read_of a.mem need ≡ read → verdict_of s a.link.server.cookies a.link.conn (waiting a got) (copy_frame a (length got) need) ≡ need_verdict (Some need) (length got) (copy_by need (length got) read)
 copy_verdict_is a s got need read next e =
     let n = a.link.client.last + 1 in
     let task = Gathers a.call got true in
-    ap (λ (b : Body). body_verdict s (waiting a got) n b) (copy_is a.mem (length got) need ∙ ap (λ (r : Result (List ℕ) CopyFault). copy_by need (length got) r) e)
-    ∙ copy_looked_at s (waiting a got) n (length got) need read
+    ap (λ (b : Body). body_verdict s a.link.server.cookies a.link.conn (waiting a got) n b) (copy_is a.mem (length got) need ∙ ap (λ (r : Result (List ℕ) CopyFault). copy_by need (length got) r) e)
+    ∙ copy_looked_at s a.link.server.cookies a.link.conn (waiting a got) n (length got) need read
     ∙ ap (λ (o : Option OpenCall). copy_verdict o (copy_by need (length got) read)) (call_there n task)
     ∙ ap (λ (o : Option Need). need_verdict o (length got) (copy_by need (length got) read)) next
 
@@ -64,7 +64,7 @@ copy_comes a journal got need bytes next e =
     let brings : bytes_in f.body ≡ bytes
     = ap bytes_in (copy_is a.mem (length got) need ∙ ap (λ (r : Result (List ℕ) CopyFault). copy_by need (length got) r) e) ∙ copy_bytes (length got) need bytes in
     frame_comes a journal x f
-    ∙ ap (λ (v : Verdict). frame_by v m a.link.conn x f) (copy_verdict_is a (state_after journal) got need (Ok bytes) next e ∙ copy_taken (length got) need bytes (read_fits (root_part ∷ a.mem) need bytes e))
+    ∙ ap (λ (v : Verdict). frame_by v m a.link.conn x f 0) (copy_verdict_is a (state_after journal) got need (Ok bytes) next e ∙ copy_taken (length got) need bytes (read_fits (root_part ∷ a.mem) need bytes e))
     ∙ ap (λ (o : Option OpenCall). go_on m a.link.conn x f (λ task. with_copy task (bytes_in f.body)) o) (call_there (a.link.client.last + 1) (Gathers a.call got true))
     ∙ goes_on a journal got need (λ task. with_copy task (bytes_in f.body)) _ (ap (λ (bs : List ℕ). Gathers a.call (got ++ bs ∷ []) false) brings)
 
@@ -77,6 +77,6 @@ fault_comes a journal got need why next e =
     let m = server_at a journal x in
     let f = copy_frame a (length got) need in
     frame_comes a journal x f
-    ∙ ap (λ (v : Verdict). frame_by v m a.link.conn x f) (copy_verdict_is a (state_after journal) got need (Err why) next e ∙ fault_taken a.call (length got) need a.mem why next e)
+    ∙ ap (λ (v : Verdict). frame_by v m a.link.conn x f 0) (copy_verdict_is a (state_after journal) got need (Err why) next e ∙ fault_taken a.call (length got) need a.mem why next e)
     ∙ ap (λ (o : Option OpenCall). go_on m a.link.conn x f (λ task. with_error task (errno_of why)) o) (call_there (a.link.client.last + 1) (Gathers a.call got true))
     ∙ goes_on a journal got need (λ task. with_error task (errno_of why)) (Fails a.call (errno_of why)) refl

@@ -17,6 +17,8 @@ use Rattle.sp_copy.specs.Reading.{gives, given, read_from, read_of}
 use Rattle.sp_copy.specs.declared.fault.CopyFault.{CopyFault}
 use Rattle.sp_copy.specs.declared.fault.CopyFault.TheVariants.{Fault, NoEnd, NoMemory}
 use Rattle.sp_copy.specs.declared.part.Part.{Part}
+use Rattle.sp_base.specs.declared.names.ConnNo.{ConnNo}
+use Rattle.sp_fork.specs.Jar.{Jar}
 use Rattle.sp_frames.specs.declared.frame.Body.{Body}
 use Rattle.kern_model.specs.State.{State}
 use Rattle.kern_model.specs.declared.operation.Ins.TheVariants as ins
@@ -39,12 +41,12 @@ copy_is mem index (Bytes addr len) = refl
 copy_is mem index (Text addr limit) = refl
 
 -- it is looked at as a copy for its call
-pub copy_looked_at : (s : State) (x : Connection) (n index : ℕ) (need : Need) (read : Result (List ℕ) CopyFault)
-    → body_verdict s x n (copy_by need index read) ≡ copy_verdict (get x.calls n) (copy_by need index read)
-copy_looked_at s x n index (Bytes addr len) (Ok bytes) = refl
-copy_looked_at s x n index (Bytes addr len) (Err why) = refl
-copy_looked_at s x n index (Text addr limit) (Ok bytes) = refl
-copy_looked_at s x n index (Text addr limit) (Err why) = refl
+pub copy_looked_at : (s : State) (jar : Jar) (c : ConnNo) (x : Connection) (n index : ℕ) (need : Need) (read : Result (List ℕ) CopyFault)
+    → body_verdict s jar c x n (copy_by need index read) ≡ copy_verdict (get x.calls n) (copy_by need index read)
+copy_looked_at s jar c x n index (Bytes addr len) (Ok bytes) = refl
+copy_looked_at s jar c x n index (Bytes addr len) (Err why) = refl
+copy_looked_at s jar c x n index (Text addr limit) (Ok bytes) = refl
+copy_looked_at s jar c x n index (Text addr limit) (Err why) = refl
 
 -- ---- bytes
 

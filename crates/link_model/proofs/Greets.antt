@@ -1,5 +1,5 @@
 -- A greeting makes a link whole.
-use Rattle.std.proofs.Common.{◌≡◌, ℕ, ◌+◌, true, false, List, [], ◌∷◌, ◌++◌, Option, Some, None, refl, sym, ap, subst, ◌∙◌, cond}
+use Rattle.std.proofs.Common.{◌≡◌, ℕ, ◌+◌, true, false, List, [], ◌∷◌, ◌++◌, length, Option, Some, None, refl, sym, ap, subst, ◌∙◌, cond}
 use Rattle.std.specs.Prelude.{is_some, IsSome}
 use Rattle.std.specs.Ordering.{nat_cmp}
 use Rattle.std.specs.Cmp.{nat_cmp_total}
@@ -13,8 +13,8 @@ use Rattle.kern_model.specs.Outcome.{success}
 use Rattle.kern_model.specs.declared.journal.Entry.{Entry}
 use Rattle.kern_model.specs.declared.journal.Who.TheVariants.{Request}
 use Rattle.kern_model.specs.declared.operation.Op.TheVariants.{Attach}
-use Rattle.hub_model.specs.Ends.{nothing_read}
 use Rattle.hub_model.specs.Frames.{hello}
+use Rattle.hub_model.specs.Journal.{nothing_read}
 use Rattle.hub_model.specs.Machine.{played, is_new}
 use Rattle.hub_model.specs.Requests.{no_process, frame_at, frame_by, attach}
 use Rattle.hub_model.specs.State.{Connection, Machine, Played, fresh_connection}
@@ -22,6 +22,8 @@ use Rattle.hub_model.specs.Verdict.{verdict_of}
 use Rattle.hub_model.specs.Work.{take_at}
 use Rattle.hub_model.specs.declared.event.Event.TheVariants as event
 use Rattle.hub_model.specs.declared.event.Reply.TheVariants as reply
+use Rattle.hub_model.specs.declared.handover.Handover.{Handover}
+use Rattle.hub_model.specs.declared.handover.Handover.TheVariants.{Attached}
 use Rattle.hub_model.specs.declared.state.Condition.TheVariants.{Live}
 use Rattle.hub_model.specs.declared.verdict.Verdict.{Verdict}
 use Rattle.hub_model.specs.declared.verdict.Verdict.TheVariants as verdict
@@ -33,7 +35,6 @@ use Rattle.client_model.specs.Requests.{is_busy}
 use Rattle.client_model.specs.State as client_state
 use Rattle.client_model.specs.State.{Open, Client, fresh_client, fresh_request, hello_frame}
 use Rattle.client_model.specs.declared.event.Event.TheVariants as client_event
-use Rattle.client_model.specs.declared.event.Hello.{Hello}
 use Rattle.client_model.specs.declared.event.Hello.TheVariants.{Guest}
 use Rattle.client_model.specs.declared.event.Reply.TheVariants as client_reply
 use Rattle.client_model.specs.declared.request.Request.TheVariants as request
@@ -43,9 +44,21 @@ use Rattle.link_model.specs.Greeting.{Greeting, IsGreeted, opened}
 use Rattle.link_model.specs.Link.{Link, made, carried, server_plays, server_hands, client_plays}
 use Rattle.link_model.specs.declared.moves.Move.TheVariants.{ToServer, ToClient}
 
--- the server with a journal and a connection
-abbrev server_with : Machine → ConnNo → List Entry → Connection → Machine
-server_with m c journal x = record { version = m.version; journal = journal; connections = insert m.connections c.0 x; opened = Some c.0; halted = false }
+-- the server with a journal, with what was done to hand processes over, and with a connection
+abbrev server_with : Machine → ConnNo → List Entry → List Handover → Connection → Machine
+server_with m c journal handovers x = record {
+  version = m.version;
+  journal = journal;
+  connections = insert m.connections c.0 x;
+  cookies = m.cookies;
+  handovers = handovers;
+  opened = Some c.0;
+  halted = false;
+}
+
+-- the server once the connection has opened
+abbrev server_before : Machine → ConnNo → Machine
+server_before m c = server_with m c m.journal m.handovers fresh_connection
 
 -- the connection while the response of the handshake is queued
 abbrev greeted : ℕ → Connection
@@ -54,6 +67,10 @@ greeted n = record { condition = Live (record { 0 = n }); last = 1; calls = empt
 -- the entry of the handshake
 abbrev entry_with : ConnNo → ℕ → Entry
 entry_with c n = record { pid = no_process; who = Request c (record { 0 = 1 }); op = Attach; ins = nothing_read; outcome = success n }
+
+-- the server once the handshake was performed, with the connection
+abbrev server_behind : Machine → ConnNo → ℕ → Connection → Machine
+server_behind m c n x = server_with m c (m.journal ++ entry_with c n ∷ []) (Attached c (record { 0 = length m.journal }) ∷ m.handovers) x
 
 -- the client while its handshake is under way
 abbrev greeter : Version → Client
@@ -83,30 +100,30 @@ guest version n = record {
 
 -- ---- the server
 
-opens : (m : Machine) (c : ConnNo) → m.halted ≡ false → is_new m.opened c.0 ≡ true → (played true m (event.Opened c)).1 ≡ server_with m c m.journal fresh_connection
+opens : (m : Machine) (c : ConnNo) → m.halted ≡ false → is_new m.opened c.0 ≡ true → (played true m (event.Opened c)).1 ≡ server_before m c
 opens m c serves new = rw (serves, new) refl
 
 module _ (m : Machine) (c : ConnNo) (n : ℕ) (low : lowest_unused (state_after m.journal).processes FIRST_PROCESS ≡ Some n) (name : List ℕ) where
-  attaches : verdict_of (state_after m.journal) fresh_connection (hello_frame (Guest name)) ≡ verdict.Attach
+  attaches : verdict_of (state_after m.journal) m.cookies c fresh_connection (hello_frame (Guest name)) ≡ verdict.Attach
   attaches = rw low refl
 
   next : next_entry m.journal no_process (Request c (record { 0 = 1 })) Attach nothing_read ≡ Some (entry_with c n)
   next = rw low refl
 
-  greets : played true (server_with m c m.journal fresh_connection) (event.Frame c (hello_frame (Guest name)) 0) ≡ (reply.Done, server_with m c (m.journal ++ entry_with c n ∷ []) (greeted n))
+  greets : played true (server_before m c) (event.Frame c (hello_frame (Guest name)) 0) ≡ (reply.Done, server_behind m c n (greeted n))
   greets =
-      let old = server_with m c m.journal fresh_connection in
+      let old = server_before m c in
       let f = hello_frame (Guest name) in
-      ap (λ (o : Option Connection). frame_at old c f o) (get_put m.connections c.0 fresh_connection)
-      ∙ ap (λ (v : Verdict). frame_by v old c fresh_connection f) attaches
+      ap (λ (o : Option Connection). frame_at old c f 0 o) (get_put m.connections c.0 fresh_connection)
+      ∙ ap (λ (v : Verdict). frame_by v old c fresh_connection f 0) attaches
       ∙ ap (λ (o : Option Entry). attach old c fresh_connection f o) next
-      ∙ ap (λ (cs : FinMap nat_cmp Connection). (reply.Done, record (server_with m c (m.journal ++ entry_with c n ∷ []) (greeted n)) { connections = cs }))
+      ∙ ap (λ (cs : FinMap nat_cmp Connection). (reply.Done, record (server_behind m c n (greeted n)) { connections = cs }))
       (again m.connections (insert m.connections c.0 fresh_connection) c.0 fresh_connection (greeted n) refl)
 
-  tells : (journal : List Entry) → played true (server_with m c journal (greeted n)) (event.Take c) ≡ (reply.Out (hello (record { 0 = 1 }) n), server_with m c journal (idle (record { 0 = n }) 1))
-  tells journal =
-      ap (λ (o : Option Connection). take_at (server_with m c journal (greeted n)) c o) (get_put m.connections c.0 (greeted n))
-      ∙ ap (λ (cs : FinMap nat_cmp Connection). (reply.Out (hello (record { 0 = 1 }) n), record (server_with m c journal (greeted n)) { connections = cs }))
+  tells : played true (server_behind m c n (greeted n)) (event.Take c) ≡ (reply.Out (hello (record { 0 = 1 }) n), server_behind m c n (idle (record { 0 = n }) 1))
+  tells =
+      ap (λ (o : Option Connection). take_at (server_behind m c n (greeted n)) c o) (get_put m.connections c.0 (greeted n))
+      ∙ ap (λ (cs : FinMap nat_cmp Connection). (reply.Out (hello (record { 0 = 1 }) n), record (server_behind m c n (greeted n)) { connections = cs }))
       (again m.connections (insert m.connections c.0 (greeted n)) c.0 (greeted n) (idle (record { 0 = n }) 1) refl)
 
 -- ---- the client
@@ -135,30 +152,26 @@ both link = carried link (ToServer ∷ ToClient ∷ [])
 
 module _ (version : Version) (m : Machine) (c : ConnNo) (n : ℕ) (low : lowest_unused (state_after m.journal).processes FIRST_PROCESS ≡ Some n) (name : List ℕ) where
   abbrev first : Link
-  first = record { client = fresh_client version (Guest name); server = server_with m c m.journal fresh_connection; conn = c }
-
-  abbrev journal : List Entry
-  journal = m.journal ++ entry_with c n ∷ []
+  first = record { client = fresh_client version (Guest name); server = server_before m c; conn = c }
 
   abbrev last : Link
-  last = record { client = guest version n; server = server_with m c journal (idle (record { 0 = n }) 1); conn = c }
+  last = record { client = guest version n; server = server_behind m c n (idle (record { 0 = n }) 1); conn = c }
 
   moved : both first ≡ last
   moved =
       ap (λ (p : Played). (made (server_plays (record first { client = greeter version }) p).link ToClient).link) (greets m c n low name)
-      ∙ ap (λ (p : Played). (server_hands (record { client = greeter version; server = server_with m c journal (greeted n); conn = c }) p).link) (tells m c n low name journal)
+      ∙ ap (λ (p : Played). (server_hands (record { client = greeter version; server = server_behind m c n (greeted n); conn = c }) p).link) (tells m c n low name)
       ∙ ap (λ (p : client_state.Played). (client_plays (record last { client = greeter version }) p).link) (joins version n)
 
 -- ---- every greeting
 
-greeted_by : (g : Greeting) (hello : Hello) → g.hello ≡ hello → (lowest : Option ℕ) → lowest_unused (state_after g.server.journal).processes FIRST_PROCESS ≡ lowest → IsSome lowest → IsGreeted g (both (opened g))
-greeted_by g hello is None low room = absurd cc
-greeted_by g (Guest name) is (Some n) low room =
+greeted_by : (g : Greeting) (lowest : Option ℕ) → lowest_unused (state_after g.server.journal).processes FIRST_PROCESS ≡ lowest → IsSome lowest → IsGreeted g (both (opened g))
+greeted_by g None low room = absurd cc
+greeted_by g (Some n) low room =
     let c = g.conn in
-    let begins : opened g ≡ first g.version g.server c n low name
-    = ap (λ (h : Hello). record (opened g) { client = fresh_client g.version h }) is
-    ∙ ap (λ (m : Machine). record (first g.version g.server c n low name) { server = m }) (opens g.server c g.serves g.new) in
-    subst (λ (l : Link). IsGreeted g l) (sym (ap both begins ∙ moved g.version g.server c n low name)) (record {
+    let begins : opened g ≡ first g.version g.server c n low g.name
+    = ap (λ (m : Machine). record (first g.version g.server c n low g.name) { server = m }) (opens g.server c g.serves g.new) in
+    subst (λ (l : Link). IsGreeted g l) (sym (ap both begins ∙ moved g.version g.server c n low g.name)) (record {
       whole = record {
         ready = refl;
         goes_on = refl;
@@ -169,12 +182,13 @@ greeted_by g (Guest name) is (Some n) low room =
         idle = get_put g.server.connections c.0 (idle (record { 0 = n }) 1);
       };
       entry = entry_with c n;
-      next = next g.server c n low name;
+      next = next g.server c n low g.name;
       grown = refl;
       process = refl;
+      cookies = refl;
       last = refl;
     })
 
 -- a greeting that is carried over makes the link whole
 pub greeting_carried : (g : Greeting) → IsGreeted g (both (opened g))
-greeting_carried g = greeted_by g g.hello refl (lowest_unused (state_after g.server.journal).processes FIRST_PROCESS) refl g.room
+greeting_carried g = greeted_by g (lowest_unused (state_after g.server.journal).processes FIRST_PROCESS) refl g.room

@@ -16,10 +16,11 @@ use Rattle.hub_model.specs.State.{Connection, Machine}
 use Rattle.hub_model.proofs.Entries.{nexts}
 use Rattle.tables.proofs.Entries.{again, back}
 use Rattle.tables.proofs.Maps.{get_put}
-use Rattle.client_model.specs.Requests.{start_by}
+use Rattle.client_model.specs.Requests.{start_by, call_body}
 use Rattle.client_model.specs.State.{Played}
 use Rattle.client_model.specs.declared.event.Reply.TheVariants as reply
 use Rattle.client_model.specs.declared.request.Ending.{Ending}
+use Rattle.client_model.specs.declared.request.Request.TheVariants as request
 use Rattle.link_model.specs.Asked.{Asked, IsPerformed, IsAnswered, IsFine, IsWholeAgain, IsClosed, Grows, number_of, start_of, after, journal_before, entry_of, direct_of, collected, after_collecting, idle}
 use Rattle.link_model.specs.Direct.{reads, seen}
 use Rattle.link_model.specs.Link.{Link, made, carried}
@@ -38,7 +39,7 @@ put_again m k x h = sym (back m (insert m k x) k x x refl h) ∙ again m (insert
 pub started : (a : Asked) → start_of a ≡ (reply.Started (number_of a), (shape a Sent).client)
 started a =
     let k = a.link.client in
-    ap (λ (o : Option Ending). start_by k a.call a.mem o) a.whole.goes_on
+    ap (λ (o : Option Ending). start_by k (request.Call a.call) (call_body a.call) a.mem o) a.whole.goes_on
     ∙ rw (a.whole.ready, a.whole.free, a.whole.sent, a.whole.goes_on) refl
 
 served : (a : Asked) → a.link.server ≡ (shape a Sent).server
@@ -123,6 +124,10 @@ answer_stands a moves =
 -- neither side refuses what comes to it
 pub moves_fine : (a : Asked) (moves : List Move) (move : Move) → IsFine (made (after a moves) move)
 moves_fine a moves move = let h = stands a moves in subst (λ (l : Link). IsFine (made l move)) (sym h.is) (move_goes a h.stage h.fact move).leads.fine
+
+-- the server's cookies stay
+pub cookies_stay : (a : Asked) (moves : List Move) → (after a moves).server.cookies ≡ a.link.server.cookies
+cookies_stay a moves = ap (λ (l : Link). l.server.cookies) (stands a moves).is
 
 -- the journal has the call's entry more exactly where the call is done
 pub journal_grows : (a : Asked) (moves : List Move) (move : Move)

@@ -29,7 +29,8 @@ use Rattle.hub_model.specs.declared.verdict.Verdict.{Verdict}
 use Rattle.hub_model.specs.declared.verdict.Verdict.TheVariants as verdict
 use Rattle.tables.proofs.Entries.{again}
 use Rattle.tables.proofs.Maps.{get_put, get_put_other, get_gone, get_gone_other, same_or_not}
-use Rattle.client_model.specs.Requests.{call_frame}
+use Rattle.client_model.specs.Requests.{call_body}
+use Rattle.client_model.specs.State.{request_frame}
 use Rattle.link_model.specs.Asked.{Asked, number_of, journal_before, entry_of}
 use Rattle.link_model.proofs.Stage.{server_at, connection_at, calls_at}
 
@@ -40,8 +41,8 @@ module _ (a : Asked) (journal : List Entry) (x : Connection) where
   there = get_put a.link.server.connections a.link.conn.0 x
 
   pub frame_comes : (f : Frame) → played true (server_at a journal x) (event.Frame a.link.conn f 0)
-      ≡ frame_by (verdict_of (state_after journal) x f) (server_at a journal x) a.link.conn x f
-  frame_comes f = ap (λ (o : Option Connection). frame_at (server_at a journal x) a.link.conn f o) there
+      ≡ frame_by (verdict_of (state_after journal) a.link.server.cookies a.link.conn x f) (server_at a journal x) a.link.conn x f 0
+  frame_comes f = ap (λ (o : Option Connection). frame_at (server_at a journal x) a.link.conn f 0 o) there
 
   pub is_worked : (r : ReqNo) → played true (server_at a journal x) (event.Work a.link.conn r) ≡ work_number true (server_at a journal x) a.link.conn x r (get x.calls r.0)
   is_worked r = ap (λ (o : Option Connection). work_at true (server_at a journal x) a.link.conn r o) there
@@ -82,18 +83,18 @@ words_fit : (a : Asked) → is_other_count (wanted_words (call_number a.call)) (
 words_fit a = same_count (wanted_words (call_number a.call)) (length (call_words a.call)) (call-count a.call a.proper)
 
 -- the server takes the call
-call_verdict_is : (a : Asked) (s : State) → verdict_of s (connection_at a a.link.client.last None []) (call_frame (a.link.client.last + 1) a.call) ≡ verdict.Task a.call
+call_verdict_is : (a : Asked) (s : State) → verdict_of s a.link.server.cookies a.link.conn (connection_at a a.link.client.last None []) (request_frame (a.link.client.last + 1) (call_body a.call)) ≡ verdict.Task a.call
 call_verdict_is a s = rw (later a.link.client.last, words_fit a, a.now, len-empty nat_cmp OpenCall, call_of-parts a.call a.proper) refl
 
 -- the call is open
 pub call_comes : (a : Asked) (journal : List Entry)
-    → played true (server_at a journal (connection_at a a.link.client.last None [])) (event.Frame a.link.conn (call_frame (a.link.client.last + 1) a.call) 0)
+    → played true (server_at a journal (connection_at a a.link.client.last None [])) (event.Frame a.link.conn (request_frame (a.link.client.last + 1) (call_body a.call)) 0)
     ≡ (reply.Task (number_of a), server_at a journal (connection_at a (a.link.client.last + 1) (Some (Gathers a.call [] false)) []))
 call_comes a journal =
     let x = connection_at a a.link.client.last None [] in
-    let f = call_frame (a.link.client.last + 1) a.call in
+    let f = request_frame (a.link.client.last + 1) (call_body a.call) in
     frame_comes a journal x f
-    ∙ ap (λ (v : Verdict). frame_by v (server_at a journal x) a.link.conn x f) (call_verdict_is a (state_after journal))
+    ∙ ap (λ (v : Verdict). frame_by v (server_at a journal x) a.link.conn x f 0) (call_verdict_is a (state_after journal))
     ∙ moves_to a journal x (reply.Task (number_of a)) journal _ _ refl
 
 -- ---- the call is worked

@@ -22,8 +22,8 @@ use Rattle.hub_model.specs.declared.state.Condition.TheVariants.{Live}
 use Rattle.hub_model.specs.declared.state.OpenCall.{OpenCall}
 use Rattle.hub_model.specs.declared.state.OpenCall.TheVariants.{Gathers, Fails, Answers}
 use Rattle.client_model.specs.Asks.{copy_of}
-use Rattle.client_model.specs.Requests.{call_frame}
-use Rattle.client_model.specs.State.{Open, Client}
+use Rattle.client_model.specs.Requests.{call_body}
+use Rattle.client_model.specs.State.{Open, Client, request_frame}
 use Rattle.client_model.specs.declared.request.Request.TheVariants as request
 use Rattle.client_model.specs.declared.request.Response.{Response}
 use Rattle.client_model.specs.declared.request.Response.TheVariants as response
@@ -77,6 +77,8 @@ server_at a journal x = record {
   version = a.link.server.version;
   journal = journal;
   connections = insert a.link.server.connections a.link.conn.0 x;
+  cookies = a.link.server.cookies;
+  handovers = a.link.server.handovers;
   opened = a.link.server.opened;
   halted = false;
 }
@@ -125,7 +127,7 @@ copy_frame a index need = record { number = number_of a; body = copy_of a.mem (a
 abbrev pub look : Asked → Stage → Look
 look a Sent = record {
   request = open_of a (untouched a) [] None;
-  up = call_frame (a.link.client.last + 1) a.call ∷ [];
+  up = request_frame (a.link.client.last + 1) (call_body a.call) ∷ [];
   journal = journal_before a;
   last = a.link.client.last;
   task = None;

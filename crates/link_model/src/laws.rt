@@ -11,7 +11,7 @@ ghost use Rattle.link_model.specs.Route.{route};
 ghost use Rattle.link_model.specs.declared.moves.Move.TheVariants.{ToClient, ToServer};
 ghost use Rattle.link_model.specs.declared.moves.Move.{Move};
 
-/// A client that greets a server over a new connection has a whole link once its frame and the
+/// A guest that greets a server over a new connection has a whole link once its frame and the
 /// response were carried over.
 pub fn greetings_make_links_whole()
     ensures { (greeting : Greeting)
@@ -22,12 +22,13 @@ pub fn greetings_make_links_whole()
 /// once, with its caller's memory in hand, whatever moves are made on the link.
 ///
 /// Asking by frames is gathering (`asks`): the call has one entry at the most, which is of what it
-/// reads of that memory. Putting by frames is delivering (`puts`): the call isn't answered yet, or its
-/// caller sees what it would see at once, at the place of the entry. The journal grows as the server
-/// answers that the call is done, and else never (`grows`), and neither side refuses what comes to it
-/// (`fine`). Where the kernel is ready for the call, it can be brought to its answer from wherever it
-/// is (`ends`), and has it at the end of its route (`arrives`). Once that is collected, the link is
-/// whole again (`whole`), and its request is closed (`closed`).
+/// reads of that memory. Putting by frames is delivering (`puts`): the call isn't answered yet, or
+/// its caller sees what it would see at once, at the place of the entry. The journal grows as the
+/// server answers that the call is done, and else never (`grows`), and neither side refuses what
+/// comes to it (`fine`). None of the server's cookies is made or used (`cookies`). Where the kernel
+/// is ready for the call, it can be brought to its answer from wherever it is (`ends`), and has it
+/// at the end of its route (`arrives`). Once that is collected, the link is whole again (`whole`),
+/// and its request is closed (`closed`).
 pub fn calls_by_frames_are_direct()
     ensures starts { (asked : Asked) → (start_of asked).0 ≡ Reply.Started (number_of asked) }
     ensures asks { (asked : Asked) (moves : List Move)
@@ -42,6 +43,8 @@ pub fn calls_by_frames_are_direct()
         Grows asked link.server.journal next.server next.link.server.journal }
     ensures fine { (asked : Asked) (moves : List Move) (move : Move)
         → IsFine (made (after asked moves) move) }
+    ensures cookies { (asked : Asked) (moves : List Move)
+        → (after asked moves).server.cookies ≡ asked.link.server.cookies }
     ensures ends { (asked : Asked) (moves : List Move)
         → IsSome (direct_of asked)
         → (more : List Move) × IsAnswered asked (after asked (moves ++ more)) }

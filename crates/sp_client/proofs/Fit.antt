@@ -14,21 +14,39 @@ use Rattle.sp_copy.specs.declared.part.Part.{Part}
 use Rattle.client_model.specs.Asks.{error_of}
 use Rattle.sp_base.specs.Call.{call_number, call_words}
 use Rattle.sp_base.specs.declared.call.Call.{Call}
+use Rattle.sp_base.specs.declared.names.Cookie.{Cookie}
 use Rattle.sp_frames.specs.Fields.{IsBytes}
-use Rattle.sp_frames.specs.Grammar.{AreWords, BodyFits, Fits}
+use Rattle.sp_frames.specs.Grammar.{AreWords, BodyFits, Fits, IsName}
+use Rattle.sp_frames.specs.declared.frame.Body.{Body}
 use Rattle.sp_frames.specs.declared.frame.Body.TheVariants as body
 use Rattle.sp_frames.specs.declared.frame.Frame.{Frame}
 use Rattle.sp_frames.proofs.StreamLaws.{each-append}
-use Rattle.client_model.specs.Requests.{call_frame}
-use Rattle.client_model.specs.State.{HasName, hello_frame}
-use Rattle.client_model.specs.declared.event.Hello.{Hello}
-use Rattle.client_model.specs.declared.event.Hello.TheVariants.{Guest}
+use Rattle.client_model.specs.Requests.{call_body}
+use Rattle.client_model.specs.State.{request_frame}
 
-pub hello_fits : (hello : Hello) → HasName hello → Fits (hello_frame hello)
-hello_fits (Guest name) h = record { number = omega arith; body = record { word = omega arith; front = tt; row = h } }
+pub guest_fits : (name : List ℕ) → IsName name → BodyFits (body.Guest name)
+guest_fits name h = record { word = omega arith; front = tt; row = h }
 
-pub call_fits : (n : ℕ) (call : Call) → n < 2 ^ 64 → call_number call < 2 ^ 32 → AreWords (call_words call) → Fits (call_frame n call)
-call_fits n call l w a = record { number = l; body = record { word = w; front = tt; row = a } }
+pub join_fits : (cookie : Cookie) (name : List ℕ) → cookie.number < 2 ^ 64 → cookie.salt < 2 ^ 64 → IsName name → BodyFits (body.Join cookie name)
+join_fits cookie name n s h = record { word = omega arith; front = (n, (s, tt)); row = h }
+
+pub image_fits : (cookie : Cookie) (name : List ℕ) → cookie.number < 2 ^ 64 → cookie.salt < 2 ^ 64 → IsName name → BodyFits (body.Image cookie name)
+image_fits cookie name n s h = record { word = omega arith; front = (n, (s, tt)); row = h }
+
+pub call_fits : (call : Call) → call_number call < 2 ^ 32 → AreWords (call_words call) → BodyFits (call_body call)
+call_fits call w a = record { word = w; front = tt; row = a }
+
+pub prefork_fits : BodyFits body.Prefork
+prefork_fits = record { word = omega arith; front = tt; row = tt }
+
+pub cancel_fits : (cookie : Cookie) → cookie.number < 2 ^ 64 → cookie.salt < 2 ^ 64 → BodyFits (body.Cancel cookie)
+cancel_fits cookie n s = record { word = omega arith; front = (n, (s, tt)); row = tt }
+
+pub preexec_fits : BodyFits body.Preexec
+preexec_fits = record { word = omega arith; front = tt; row = tt }
+
+pub frame_fits : (n : ℕ) (says : Body) → n < 2 ^ 64 → BodyFits says → Fits (request_frame n says)
+frame_fits n says l fits = record { number = l; body = fits }
 
 -- bytes that were read
 pub bytes_fit : (index len : ℕ) (bytes : List ℕ) → index < 2 → length bytes ≡ len → len ≤ 131044 → IsBytes bytes → BodyFits (body.GotBytes index 0 bytes)

@@ -1,4 +1,5 @@
 pub mod AskedLaws
+pub mod Events
 pub mod Fit
 pub mod Values
 pub mod Needs

@@ -117,6 +117,11 @@ pub record IsNewAsk (x : OpenRequest) (index : ℕ) (ask : Body) : Type 0 where
 
 bytes_by : (x : OpenRequest) (what : Request) (index addr len : ℕ) → x.request ≡ what → fits_request what x.asked (body.AskBytes index addr len) ≡ true → IsNewAsk x index (body.AskBytes index addr len)
 bytes_by x request.Attach index addr len is e = absurd cc
+bytes_by x request.Join index addr len is e = absurd cc
+bytes_by x request.Image index addr len is e = absurd cc
+bytes_by x request.Prefork index addr len is e = absurd cc
+bytes_by x request.Cancel index addr len is e = absurd cc
+bytes_by x request.Preexec index addr len is e = absurd cc
 bytes_by x (request.Call call) index addr len is e = record {
   asks = bytes_small (slice_get (needs_of call) index) index addr len (need_small call index) (and_parts _ _ e).0;
   new = not-true (was_asked x.asked index) (and_parts _ _ e).1;
@@ -124,6 +129,11 @@ bytes_by x (request.Call call) index addr len is e = record {
 
 text_by : (x : OpenRequest) (what : Request) (index addr most : ℕ) → x.request ≡ what → fits_request what x.asked (body.AskText index addr most) ≡ true → IsNewAsk x index (body.AskText index addr most)
 text_by x request.Attach index addr most is e = absurd cc
+text_by x request.Join index addr most is e = absurd cc
+text_by x request.Image index addr most is e = absurd cc
+text_by x request.Prefork index addr most is e = absurd cc
+text_by x request.Cancel index addr most is e = absurd cc
+text_by x request.Preexec index addr most is e = absurd cc
 text_by x (request.Call call) index addr most is e = record {
   asks = text_small (slice_get (needs_of call) index) index addr most (need_small call index) (and_parts _ _ e).0;
   new = not-true (was_asked x.asked index) (and_parts _ _ e).1;

@@ -2,20 +2,21 @@ ghost use Rattle.std.specs.Prelude.{◌≡◌, ◌≢◌, Some, None, IfOk, IfEr
 ghost use Rattle.std.specs.FinMap as map;
 ghost use Rattle.std.specs.List.{list_any};
 ghost use Rattle.client_model.specs.Machine.{Plays, played};
-ghost use Rattle.client_model.specs.Requests as requests;
 ghost use Rattle.client_model.specs.Requests.{closed, collected, highest_number, is_busy, start_now};
 ghost use Rattle.client_model.specs.Run.{has_response, is_answered, is_still};
 ghost use Rattle.client_model.specs.State as state;
-ghost use Rattle.client_model.specs.State.{HasName, fresh_client, hello_frame};
+ghost use Rattle.client_model.specs.State.{HasName, fresh_client, request_frame};
 ghost use Rattle.client_model.specs.declared.event.Event.TheVariants as event;
 ghost use Rattle.client_model.specs.declared.event.Reply.TheVariants as reply;
 ghost use Rattle.sp_base.specs.declared.names.Caller.{Caller};
-ghost use Rattle.sp_frames.specs.Grammar.{Fits};
+ghost use Rattle.sp_client.specs.Asking.{IsAsked};
+ghost use Rattle.sp_frames.specs.Grammar.{BodyFits, Fits};
 ghost use Rattle.sp_frames.specs.declared.frame.Frame.{Frame};
 ghost use Rattle.sp_frames.specs.declared.version.Version.TheVariants.{Four};
 
+use crate::asking::{asked_by, call_body, preexec_body, said_by, want_body, wanted};
 use crate::request::OpenRequest;
-use client_model::{Ending, Event, Hello, OPEN_REQUESTS, Reply, Request, Response};
+use client_model::{Ending, Event, Hello, OPEN_REQUESTS, Reply, Request, Response, Want};
 use sp_base::{Call, KeptQueue, NoMemory, ReqNo};
 use sp_copy::{Delivery, Mem};
 use sp_frames::{Body, Frame, Version};
@@ -58,32 +59,16 @@ impl Model for ClientCore {
     ghost invariant = { λ k. AllByRecursion Fits k.queue.items };
 }
 
-/// The frame of a handshake.
-fn hello_frame(hello: Hello) -> Frame
-    ensures { result ≡ hello_frame hello }
-{
-    match hello {
-        Hello::Guest(name) => Frame {
-            number: ReqNo(1),
-            body: Body::Guest { name },
-        },
-    }
-}
-
-/// The frame of a system call.
-#[tactic(auto, using(crate::proofs::Fit::call_fits))]
-fn call_frame(number: u64, call: &Call) -> Frame
-    ensures frame { result ≡ requests.call_frame number call.now }
+/// The frame of a request, by its number and what it says.
+#[tactic(auto, using(crate::proofs::Fit::frame_fits))]
+fn request_frame(number: u64, says: Body) -> Frame
+    requires { BodyFits says }
+    ensures frame { result ≡ request_frame number says }
     ensures fits { Fits result }
 {
-    let words = call.words();
-    let _words = words.slice();
     Frame {
         number: ReqNo(number),
-        body: Body::Sys {
-            num: call.num(),
-            words,
-        },
+        body: says,
     }
 }
 
@@ -93,7 +78,14 @@ fn collected(response: Response, delivery: Delivery) -> Reply
 {
     match response {
         Response::Joined(pid) => Reply::Joined { pid, place: None },
+        Response::Imaged(pid, place) => Reply::Joined {
+            pid,
+            place: Some(place),
+        },
         Response::Answered(answer) => Reply::Got(delivery.answer(answer), delivery.mem),
+        Response::Forked { cookie, place, pid } => Reply::Forked { cookie, place, pid },
+        Response::Cancelled => Reply::Cancelled,
+        Response::ExecReady(cookie) => Reply::ExecReady(cookie),
         Response::Refused(why) => Reply::Refused(why, delivery.mem),
     }
 }
@@ -101,16 +93,16 @@ fn collected(response: Response, delivery: Delivery) -> Reply
 impl ClientCore {
     /// A client that begins. Its handshake, which is request 1, is queued. The only error is want
     /// of memory.
-    #[tactic(auto, using(crate::proofs::Fit::hello_fits))]
     pub fn fresh(alloc: Global, hello: Hello) -> Result<ClientCore, NoMemory>
         requires { HasName hello }
         ensures { IfOk result (λ core. core ≡ fresh_client Four hello) }
     {
         let mut queue = KeptQueue::none(alloc);
         queue.keep(1)?;
-        queue.put_kept(hello_frame(hello));
+        let asks = asked_by(&hello);
+        queue.put_kept(request_frame(1, said_by(hello)));
         let mut requests = Table::new(alloc);
-        requests.insert(1, OpenRequest::sent(Request::Attach, Mem::none(alloc)))?;
+        requests.insert(1, OpenRequest::sent(asks, Mem::none(alloc)))?;
         Ok(ClientCore {
             alloc,
             version: Version::Four,
@@ -146,7 +138,7 @@ impl ClientCore {
         }
     }
 
-    /// Whether a call that starts now would be answered Busy, unless the talk with the server is
+    /// Whether a request that starts now would be answered Busy, unless the talk with the server is
     /// over or its handshake isn't answered; takes no memory.
     pub fn is_busy(&self) -> bool
         ensures { result ≡ is_busy self.now }
@@ -162,6 +154,8 @@ impl ClientCore {
     {
         match event {
             Event::Start(_, call, mem) => self.start(call, mem),
+            Event::Prefork(_, want) => self.prefork(want),
+            Event::Preexec(_) => self.preexec(),
             Event::Frame(frame) => self.frame(frame),
             Event::Collect(number) => self.collect(number),
             Event::Take => self.take(),
@@ -174,8 +168,36 @@ impl ClientCore {
     /// Lost or Broken come once the talk with the server is over, by what ended it first; else
     /// NotYet before the handshake is answered with a process; else Busy where 64 requests are
     /// open, or no number is left. Otherwise the call is queued, and Started has its number.
+    #[tactic(auto, using(crate::proofs::Events::start_plays))]
     pub fn start(&mut self, call: Call, mem: Mem) -> Reply
         ensures { (caller : Caller) → Plays self.old (event.Start caller call mem) result self.new }
+    {
+        let says = call_body(&call);
+        self.ask(Request::Call(call), says, mem)
+    }
+
+    /// A caller wants a child that a cookie hands over, or a cookie to be taken back. The replies
+    /// are those of a system call, with no memory.
+    #[tactic(auto, using(crate::proofs::Events::prefork_plays))]
+    pub fn prefork(&mut self, want: Want) -> Reply
+        ensures { (caller : Caller) → Plays self.old (event.Prefork caller want) result self.new }
+    {
+        self.ask(wanted(want), want_body(want), Mem::none(self.alloc))
+    }
+
+    /// A caller asks for a cookie, with which its process goes on as its next program. The replies
+    /// are those of a system call, with no memory.
+    #[tactic(auto, using(crate::proofs::Events::preexec_plays))]
+    pub fn preexec(&mut self) -> Reply
+        ensures { (caller : Caller) → Plays self.old (event.Preexec caller) result self.new }
+    {
+        self.ask(Request::Preexec, preexec_body(), Mem::none(self.alloc))
+    }
+
+    /// A request is asked for, with the memory that is lent for it.
+    fn ask(&mut self, asks: Request, says: Body, mem: Mem) -> Reply
+        requires { BodyFits says }
+        ensures { IsAsked self.old asks says mem result self.new }
     {
         if let Some(ending) = self.ending {
             return ending.reply(mem);
@@ -186,7 +208,7 @@ impl ClientCore {
         if self.is_busy() {
             return Reply::Busy(mem);
         }
-        match self.open(call, mem) {
+        match self.open(asks, says, mem) {
             Ok(number) => Reply::Started(number),
             Err(mem) => Reply::NoMemory(mem),
         }
@@ -195,11 +217,12 @@ impl ClientCore {
     /// Opens a request under the next number. Where memory is refused nothing changes, and the
     /// memory that was lent comes back.
     #[tactic(auto, using(crate::proofs::Fit::queue_fits))]
-    fn open(&mut self, call: Call, mem: Mem) -> Result<ReqNo, Mem>
-        requires { self.old.last ≢ highest_number }
-        ensures ok { OnOk result (self.new ≡ (start_now self.old call mem).1) }
+    fn open(&mut self, asks: Request, says: Body, mem: Mem) -> Result<ReqNo, Mem>
+        requires number { self.old.last ≢ highest_number }
+        requires fits { BodyFits says }
+        ensures ok { OnOk result (self.new ≡ (start_now self.old asks says mem).1) }
         ensures number { IfOk result (λ number.
-            reply.Started number ≡ (start_now self.old call mem).0) }
+            reply.Started number ≡ (start_now self.old asks says mem).0) }
         ensures err { OnErr result (self.new ≡ self.old) }
         ensures mem { IfErr result (λ back. back ≡ mem) }
     {
@@ -212,8 +235,8 @@ impl ClientCore {
             self.queue.free(1);
             return Err(mem);
         };
-        self.queue.put_kept(call_frame(number, &call));
-        let mut request = OpenRequest::sent(Request::Call(call), mem);
+        self.queue.put_kept(request_frame(number, says));
+        let mut request = OpenRequest::sent(asks, mem);
         self.requests.swap(number, &mut request);
         self.last = number;
         Ok(ReqNo(number))

@@ -1,6 +1,6 @@
 //! Which frames a server may send for a request, by what was asked and which needs were asked for.
 ghost use Rattle.std.specs.Prelude.{◌≡◌};
-ghost use Rattle.client_model.specs.Fitness.{lies_inside, may_write, is_ask_for, may_ask, fits_call, fits_handshake, fits_request};
+ghost use Rattle.client_model.specs.Fitness.{lies_inside, may_write, is_ask_for, may_ask, fits_call, fits_request, is_error, is_response, kind_of};
 ghost use Rattle.sp_client.specs.Asked.{was_asked};
 
 use client_model::Request;
@@ -74,13 +74,38 @@ fn fits_call(call: &Call, asked: &[u32], body: &Body) -> bool
     }
 }
 
-/// Whether the server may send this for a handshake.
-fn fits_handshake(body: &Body) -> bool
-    ensures { result ≡ fits_handshake body.now }
+/// Whether the server answers this to a request that isn't a call.
+fn is_response(request: &Request, body: &Body) -> bool
+    ensures { result ≡ is_response request.now body.now }
+{
+    match request {
+        Request::Attach => matches!(body, Body::Hello { .. }),
+        Request::Join => matches!(body, Body::Joined { .. }),
+        Request::Image => matches!(body, Body::Imaged { .. }),
+        Request::Prefork => matches!(body, Body::Forked { .. }),
+        Request::Cancel => matches!(body, Body::Cancelled),
+        Request::Preexec => matches!(body, Body::ExecReady { .. }),
+        Request::Call(_) => false,
+    }
+}
+
+/// The type of a request that isn't a call, as its error names it.
+fn kind_of(request: &Request) -> u16
+    ensures { result ≡ kind_of request.now }
+{
+    match request {
+        Request::Prefork | Request::Cancel => 5,
+        Request::Preexec => 6,
+        _ => 0,
+    }
+}
+
+/// Whether this is an error of a type.
+fn is_error(kind: u16, body: &Body) -> bool
+    ensures { result ≡ is_error kind body.now }
 {
     match body {
-        Body::Hello { .. } => true,
-        Body::Refused { kind, .. } => *kind == 0,
+        Body::Refused { kind: k, .. } => *k == kind,
         _ => false,
     }
 }
@@ -90,7 +115,7 @@ pub(crate) fn fits_request(request: &Request, asked: &[u32], body: &Body) -> boo
     ensures { result ≡ fits_request request.now asked.now body.now }
 {
     match request {
-        Request::Attach => fits_handshake(body),
         Request::Call(call) => fits_call(call, asked, body),
+        _ => is_response(request, body) || is_error(kind_of(request), body),
     }
 }

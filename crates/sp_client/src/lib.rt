@@ -1,7 +1,8 @@
-//! The client library's core: a machine that sends the system calls of a guest to a server, and
-//! answers what the server asks meanwhile.
+//! The client library's core: a machine that sends the system calls, forks and execs of a guest to a
+//! server, and answers what the server asks meanwhile.
 #![tactic(auto)]
 
+mod asking;
 mod client;
 mod copies;
 mod fitness;

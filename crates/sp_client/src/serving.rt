@@ -1,12 +1,13 @@
 //! What the frames do that come from the server.
 ghost use Rattle.std.specs.Prelude.{◌≡◌, ◌<◌, ◌∷◌, ◌++◌, [], Some, OnOk, OnErr, IsSome, false, true};
 ghost use Rattle.std.specs.FinMap as map;
-ghost use Rattle.client_model.specs.Asks.{answer_ask, goes_on, respond};
+ghost use Rattle.client_model.specs.Asks.{answer_ask, goes_on, respond, welcome};
 ghost use Rattle.client_model.specs.Fitness.{may_come};
 ghost use Rattle.client_model.specs.Machine.{Plays, is_ask};
 ghost use Rattle.client_model.specs.State as state;
 ghost use Rattle.client_model.specs.State.{with_request};
 ghost use Rattle.client_model.specs.declared.event.Event.TheVariants as event;
+ghost use Rattle.client_model.specs.declared.request.Response.TheVariants as response;
 ghost use Rattle.sp_client.specs.Asked.{IsAskOf, was_asked};
 ghost use Rattle.sp_copy.specs.Delivering.{put_piece};
 
@@ -14,9 +15,16 @@ use crate::client::ClientCore;
 use crate::copies::copy_of;
 use crate::request::OpenRequest;
 use client_model::{Ending, Reply, Request, Response};
-use sp_base::{NoMemory, ReqNo};
+use sp_base::{Cookie, NoMemory, Pid, Place, ReqNo};
 use sp_copy::Mem;
 use sp_frames::{Body, Frame};
+
+/// The response of a fork.
+fn forked(cookie: Cookie, place: Place, pid: Pid) -> Response
+    ensures { result ≡ response.Forked cookie place pid }
+{
+    Response::Forked { cookie, place, pid }
+}
 
 impl ClientCore {
     /// A frame came from the server.
@@ -64,10 +72,14 @@ impl ClientCore {
             Body::Put { addr, bytes, .. } => self.put(number, *addr, bytes.slice()),
             Body::Answered(answer) => self.respond(number, Response::Answered(*answer)),
             Body::Refused { why, .. } => self.respond(number, Response::Refused(*why)),
-            Body::Hello { pid } => {
-                self.respond(number, Response::Joined(*pid));
-                self.ready = true;
+            Body::Hello { pid } => self.welcome(number, Response::Joined(*pid)),
+            Body::Joined { pid } => self.welcome(number, Response::Joined(*pid)),
+            Body::Imaged { pid, place } => self.welcome(number, Response::Imaged(*pid, *place)),
+            Body::Forked { cookie, place, pid } => {
+                self.respond(number, forked(*cookie, *place, *pid));
             }
+            Body::Cancelled => self.respond(number, Response::Cancelled),
+            Body::ExecReady { cookie } => self.respond(number, Response::ExecReady(*cookie)),
             _ => {}
         }
         Ok(())
@@ -126,6 +138,16 @@ impl ClientCore {
         self.requests.swap(number.0, &mut request);
         request.put(addr, bytes);
         self.requests.swap(number.0, &mut request);
+    }
+
+    /// Keeps the response of the handshake: the client speaks for a process.
+    fn welcome(&mut self, number: ReqNo, response: Response)
+        requires { IsSome (map.get self.old.requests number.0) }
+        ensures { (x : state.Open) → map.get self.old.requests number.0 ≡ Some x
+            → self.new ≡ welcome self.old number x response }
+    {
+        self.respond(number, response);
+        self.ready = true;
     }
 
     /// Keeps the response of a request.

@@ -1,7 +1,10 @@
-// Conversations, step by step, with each frame as the protocol has it; and the frames that no server may send.
+// Conversations, step by step, with each frame as the protocol has it.
+mod cookies;
+mod hostile;
+
 use crate::ClientCore;
-use client_model::{Event, Hello, Reply};
-use sp_base::{Answer, Call, Caller, Items, Octets, Pid, Place, ReqNo, SpError, Words};
+use client_model::{Event, Hello, Reply, Want};
+use sp_base::{Answer, Call, Caller, Cookie, Items, Octets, Pid, Place, ReqNo, SpError, Words};
 use sp_copy::{Mem, Part, Right};
 use sp_frames::{Body, Frame};
 use std::alloc::Global;
@@ -9,11 +12,14 @@ use std::process::Abort;
 use std::test::Fail;
 
 /// The address of the one part of a caller's memory.
-const BASE: u64 = 4096;
+pub const BASE: u64 = 4096;
+
+/// The cookie of every conversation.
+pub const COOKIE: Cookie = Cookie { number: 7, salt: 8 };
 
 /// A call, at the part's address.
 #[derive(Clone, Copy)]
-enum Asked {
+pub enum Asked {
     Getpid,
     /// Of a path.
     Chdir,
@@ -27,8 +33,13 @@ enum Asked {
 
 /// What a server sends.
 #[derive(Clone, Copy)]
-enum Sent {
+pub enum Sent {
     Hello,
+    Joined,
+    Imaged,
+    Forked,
+    Cancelled,
+    ExecReady,
     Answered,
     Refused(u16),
     Ask(u32, u64, u64),
@@ -41,11 +52,14 @@ enum Sent {
 
 /// What happens to a client.
 #[derive(Clone, Copy)]
-enum Step {
+pub enum Step {
     /// With a memory of this text.
     Start(Asked, &'static str),
     /// With a memory of this text 1,024 times.
     StartLong(Asked, &'static str),
+    Prefork,
+    Cancel,
+    Preexec,
     Frame(u64, Sent),
     Collect(u64),
     Take,
@@ -91,15 +105,39 @@ fn memory(alloc: Global, times: u32, text: &str) -> Result<Mem, Fail> {
     Ok(Mem::new(alloc, parts)?)
 }
 
+fn answered() -> Body {
+    Body::Answered(Answer {
+        err: 0,
+        ret0: 4,
+        ret1: 1,
+        place: Place(9),
+    })
+}
+
+fn imaged() -> Body {
+    Body::Imaged {
+        pid: Pid(2),
+        place: Place(9),
+    }
+}
+
+fn forked() -> Body {
+    Body::Forked {
+        cookie: COOKIE,
+        place: Place(9),
+        pid: Pid(3),
+    }
+}
+
 fn body(alloc: Global, sent: Sent) -> Result<Body, Fail> {
     Ok(match sent {
         Sent::Hello => Body::Hello { pid: Pid(2) },
-        Sent::Answered => Body::Answered(Answer {
-            err: 0,
-            ret0: 4,
-            ret1: 1,
-            place: Place(9),
-        }),
+        Sent::Joined => Body::Joined { pid: Pid(3) },
+        Sent::Imaged => imaged(),
+        Sent::Forked => forked(),
+        Sent::Cancelled => Body::Cancelled,
+        Sent::ExecReady => Body::ExecReady { cookie: COOKIE },
+        Sent::Answered => answered(),
         Sent::Refused(kind) => Body::Refused {
             kind,
             why: SpError::Memory,
@@ -134,6 +172,9 @@ fn event(alloc: Global, step: Step) -> Result<Event, Fail> {
         Step::StartLong(asked, text) => {
             Event::Start(Caller(1), call(asked), memory(alloc, 1024, text)?)
         }
+        Step::Prefork => Event::Prefork(Caller(1), Want::Make),
+        Step::Cancel => Event::Prefork(Caller(1), Want::Cancel(COOKIE)),
+        Step::Preexec => Event::Preexec(Caller(1)),
         Step::Frame(number, sent) => Event::Frame(Frame {
             number: ReqNo(number),
             body: body(alloc, sent)?,
@@ -171,12 +212,23 @@ fn got(alloc: Global, answer: Answer, mem: Mem) -> Result<String, Fail> {
     )?)
 }
 
+/// A word, and a cookie.
+fn with_cookie(alloc: Global, word: &str, cookie: Cookie) -> Result<String, Fail> {
+    Ok(format!(in alloc; "{word} {} {}", cookie.number, cookie.salt)?)
+}
+
 /// A reply as text.
 fn said(alloc: Global, reply: Reply) -> Result<String, Fail> {
     match reply {
         Reply::Out(frame) => Ok(format!(in alloc; "{:?} {:?}", frame.number, frame.body)?),
         Reply::Started(number) => Ok(format!(in alloc; "Started {}", number.0)?),
         Reply::Joined { pid, place } => Ok(format!(in alloc; "Joined {} {place:?}", pid.0)?),
+        Reply::Forked { cookie, place, pid } => {
+            let text = with_cookie(alloc, "Forked", cookie)?;
+            Ok(format!(in alloc; "{text} {} {}", place.0, pid.0)?)
+        }
+        Reply::Cancelled => with_memory(alloc, "Cancelled", Mem::none(alloc)),
+        Reply::ExecReady(cookie) => with_cookie(alloc, "ExecReady", cookie),
         Reply::Got(answer, mem) => got(alloc, answer, mem),
         Reply::Busy(mem) => with_memory(alloc, "Busy", mem),
         Reply::Refused(_why, mem) => with_memory(alloc, "Refused", mem),
@@ -191,13 +243,13 @@ fn said(alloc: Global, reply: Reply) -> Result<String, Fail> {
 }
 
 /// A client whose handshake is queued.
-fn guest(alloc: Global) -> Result<ClientCore, Fail> {
+pub fn guest(alloc: Global) -> Result<ClientCore, Fail> {
     let name = Octets::of(alloc, b"vi")?;
     Ok(ClientCore::fresh(alloc, Hello::Guest(name))?)
 }
 
 /// A client answers each step as the table says.
-fn answers(
+pub fn answers(
     rt: &impl Abort,
     alloc: Global,
     core: &mut ClientCore,
@@ -213,7 +265,7 @@ fn answers(
 
 const HELLO: &str = "ReqNo(1) Guest { name: Octets { items: [118, 105] } }";
 
-const HANDSHAKE: [(Step, &str); 7] = [
+pub const HANDSHAKE: [(Step, &str); 7] = [
     (Step::Start(Asked::Getpid, "mine"), "NotYet mine"),
     (Step::Collect(1), "NotYet "),
     (Step::Take, HELLO),
@@ -324,7 +376,7 @@ fn paths(rt: HostRuntime) -> Result<(), Fail> {
 }
 
 /// The link is lost under way, after one answer.
-const LOST: [(Step, &str); 10] = [
+const LOST: [(Step, &str); 12] = [
     (Step::Start(Asked::Read, "........"), "Started 2"),
     (Step::Start(Asked::Getpid, "mine"), "Started 3"),
     (Step::Frame(2, Sent::Put(BASE, "ab")), "Nothing "),
@@ -334,6 +386,8 @@ const LOST: [(Step, &str); 10] = [
     (Step::Collect(2), "Lost ab......"),
     (Step::Collect(3), "Got 0 4 1 9 mine"),
     (Step::Start(Asked::Getpid, "mine"), "Lost mine"),
+    (Step::Prefork, "Lost "),
+    (Step::Preexec, "Lost "),
     (
         Step::Take,
         "ReqNo(2) Sys { num: 4, words: Words { items: [3, 4096, 8] } }",
@@ -356,88 +410,11 @@ fn as_many_requests_as_can_be(rt: HostRuntime) -> Result<(), Fail> {
         core.play(event(rt.alloc(), Step::Start(Asked::Getpid, ""))?);
     }
     assert!(rt; core.is_busy());
-    let busy = [(Step::Start(Asked::Getpid, "mine"), "Busy mine")];
-    answers(&rt, rt.alloc(), &mut core, &busy)
-}
-
-/// Frames that no server may send for the call that is open.
-const BAD_FRAMES: [(Asked, u64, Sent); 26] = [
-    (Asked::Getpid, 3, Sent::Answered),
-    (Asked::Getpid, 1, Sent::Answered),
-    (Asked::Getpid, 0, Sent::Refused(0)),
-    (Asked::Getpid, 2, Sent::Hello),
-    (Asked::Getpid, 2, Sent::Copy),
-    (Asked::Getpid, 2, Sent::Sys),
-    (Asked::Getpid, 2, Sent::Prefork),
-    (Asked::Getpid, 2, Sent::Refused(0)),
-    (Asked::Getpid, 2, Sent::Ask(0, BASE, 4)),
-    (Asked::Getpid, 2, Sent::Put(BASE, "a")),
-    (Asked::Write, 2, Sent::Ask(0, BASE + 1, 4)),
-    (Asked::Write, 2, Sent::Ask(0, BASE, 5)),
-    (Asked::Write, 2, Sent::Ask(0, BASE, 3)),
-    (Asked::Write, 2, Sent::Ask(1, BASE, 4)),
-    (Asked::Write, 2, Sent::Ask(7, BASE, 4)),
-    (Asked::Write, 2, Sent::AskText(4)),
-    (Asked::Write, 2, Sent::Put(BASE, "a")),
-    (Asked::Chdir, 2, Sent::AskText(1023)),
-    (Asked::Chdir, 2, Sent::Ask(0, BASE, 1024)),
-    (Asked::Receive, 2, Sent::Put(BASE - 1, "a")),
-    (Asked::Receive, 2, Sent::Put(BASE + 8, "a")),
-    (Asked::Receive, 2, Sent::Put(BASE - 1, "ab")),
-    (Asked::Receive, 2, Sent::Put(BASE + 3, "ab")),
-    (Asked::Receive, 2, Sent::Put(BASE, "abcdefgh")),
-    (Asked::Receive, 2, Sent::Put(u64::MAX, "ab")),
-    (Asked::Receive, 2, Sent::Ask(0, BASE, 4)),
-];
-
-#[test]
-fn frames_that_no_server_may_send(rt: HostRuntime) -> Result<(), Fail> {
-    for (asked, number, sent) in BAD_FRAMES {
-        let mut core = guest(rt.alloc())?;
-        answers(&rt, rt.alloc(), &mut core, &HANDSHAKE)?;
-        let steps = [
-            (Step::Start(asked, "mine"), "Started 2"),
-            (Step::Frame(number, sent), "BadServer "),
-            (Step::Gone, "Nothing "),
-            (Step::Collect(2), "Broken mine"),
-        ];
-        answers(&rt, rt.alloc(), &mut core, &steps)?;
-    }
-    Ok(())
-}
-
-/// Frames that may come once alone.
-const TWICE: [(Asked, Sent); 3] = [
-    (Asked::Write, Sent::Ask(0, BASE, 4)),
-    (Asked::Chdir, Sent::AskText(1024)),
-    (Asked::Getpid, Sent::Answered),
-];
-
-#[test]
-fn frames_that_may_come_once(rt: HostRuntime) -> Result<(), Fail> {
-    for (asked, sent) in TWICE {
-        let mut core = guest(rt.alloc())?;
-        answers(&rt, rt.alloc(), &mut core, &HANDSHAKE)?;
-        let steps = [
-            (Step::Start(asked, "mine"), "Started 2"),
-            (Step::Frame(2, sent), "Nothing "),
-            (Step::Frame(2, sent), "BadServer "),
-        ];
-        answers(&rt, rt.alloc(), &mut core, &steps)?;
-    }
-    Ok(())
-}
-
-#[test]
-fn a_handshake_that_is_refused(rt: HostRuntime) -> Result<(), Fail> {
-    let steps = [
-        (Step::Frame(1, Sent::Refused(0)), "Nothing "),
-        (Step::Collect(1), "Refused "),
-        (Step::Start(Asked::Getpid, "mine"), "NotYet mine"),
+    let busy = [
+        (Step::Start(Asked::Getpid, "mine"), "Busy mine"),
+        (Step::Prefork, "Busy "),
+        (Step::Cancel, "Busy "),
+        (Step::Preexec, "Busy "),
     ];
-    answers(&rt, rt.alloc(), &mut guest(rt.alloc())?, &steps)?;
-    let bad = [(Step::Frame(1, Sent::Answered), "BadServer ")];
-    answers(&rt, rt.alloc(), &mut guest(rt.alloc())?, &bad)?;
-    let other = [(Step::Frame(1, Sent::Refused(1)), "BadServer ")];
-    answers(&rt, rt.alloc(), &mut guest(rt.alloc())?, &other)
+    answers(&rt, rt.alloc(), &mut core, &busy)
 }
