@@ -1,6 +1,6 @@
 -- The room for exits, when processes come and go.
 use Rattle.std.specs.Prelude.{is_some, count_by}
-use Rattle.std.proofs.Common.{◌≡◌, ℕ, ◌+◌, ◌≤◌, Bool, true, false, List, [], ◌∷◌, length, Option, Some, IsSome, sym, ap, ◌∙◌, arith}
+use Rattle.std.proofs.Common.{◌≡◌, ℕ, ◌+◌, ◌≤◌, Bool, true, false, List, [], ◌∷◌, length, Option, IsSome, sym, ap, ◌∙◌, arith}
 use Rattle.std.proofs.lemmas.List.Sums.{sum_by-cons}
 use Rattle.sp_base.specs.Kept.{Room}
 use Rattle.sp_base.specs.Table.{at}
@@ -8,25 +8,26 @@ use Rattle.sp_base.specs.declared.names.ConnNo.{ConnNo}
 use Rattle.sp_base.specs.declared.names.Pid.{Pid}
 use Rattle.sp_base.specs.declared.names.ReqNo.{ReqNo}
 use Rattle.sp_base.proofs.CountLaws.{one_if}
-use Rattle.kern_model.specs.Journal.{state_after}
+use Rattle.kern_model.specs.Journal.{next_entry, state_after}
 use Rattle.kern_model.specs.State.{State, Process}
 use Rattle.kern_model.specs.declared.journal.Entry.{Entry}
-use Rattle.kern_model.specs.declared.journal.Who.TheVariants.{End, Request}
-use Rattle.kern_model.specs.declared.operation.Op.TheVariants.{Attach, Exit}
-use Rattle.kern_model.proofs.Lemmas.{exit_ends, attach_makes}
+use Rattle.kern_model.specs.declared.journal.Who.{Who}
+use Rattle.kern_model.specs.declared.journal.Who.TheVariants.{Request}
+use Rattle.kern_model.specs.declared.operation.Op.TheVariants.{Attach, Fork, Exec, Exit}
+use Rattle.kern_model.proofs.Lemmas.{attach_makes, exec_keeps, exit_ends, fork_makes}
 use Rattle.kern_calls.specs.Kernel.{Performs}
-use Rattle.hub_model.specs.Ends.{nothing_read, exit_of, with_entry}
+use Rattle.hub_model.specs.Journal.{nothing_read, with_entry}
 use Rattle.hub_model.specs.Requests.{no_process}
 use Rattle.hub_model.proofs.Entries.{nexts, count_changed, process_numbers}
 use Rattle.sp_hub.specs.Room.{HasExitRoom}
 
-pub exit_journal : (old new : Room Entry) (pid : Pid) (c : ConnNo) (place : ℕ) → Performs old pid (End c) Exit nothing_read place new → new.items ≡ exit_of old.items c (Some pid)
-exit_journal old new pid c place does = does.items ∙ sym (ap (with_entry old.items) does.is)
+pub exit_journal : (old new : Room Entry) (pid : Pid) (who : Who) (place : ℕ) → Performs old pid who Exit nothing_read place new → new.items ≡ with_entry old.items (next_entry old.items pid who Exit nothing_read)
+exit_journal old new pid who place does = does.items ∙ sym (ap (with_entry old.items) does.is)
 
-pub exit_room : (old new : Room Entry) (pid : Pid) (c : ConnNo) (place : ℕ) → IsSome (at (state_after old.items).processes pid.0) → HasExitRoom old → Performs old pid (End c) Exit nothing_read place new → HasExitRoom new
-exit_room old new pid c place live room does =
+pub exit_room : (old new : Room Entry) (pid : Pid) (who : Who) (place : ℕ) → IsSome (at (state_after old.items).processes pid.0) → HasExitRoom old → Performs old pid who Exit nothing_read place new → HasExitRoom new
+exit_room old new pid who place live room does =
     let s : State = state_after old.items in
-    let n = nexts old.items pid (End c) Exit nothing_read does.entry does.is in
+    let n = nexts old.items pid who Exit nothing_read does.entry does.is in
     let ends = exit_ends s pid.0 does.entry.outcome n.next n.acts in
     let counts = count_changed s.processes n.next.processes pid.0 ends.numbers (λ q ne. ap (λ (o : Option Process). is_some o) (ends.others q ne)) in
     let was : one_if (is_some (at s.processes pid.0)) ≡ 1 = ap one_if live in
@@ -48,6 +49,27 @@ attach_room old new c number place room does =
     let is = one_at_most (is_some (at n.next.processes at_new)) in
     let same = does.spare in
     rw (does.items, n.state, same) (omega (arith, counts, is, room))
+
+pub fork_room : (old new : Room Entry) (pid : Pid) (who : Who) (place : ℕ) → count_by is_some (state_after old.items).processes + 1 ≤ old.spare → Performs old pid who Fork nothing_read place new → HasExitRoom new
+fork_room old new pid who place room does =
+    let s : State = state_after old.items in
+    let n = nexts old.items pid who Fork nothing_read does.entry does.is in
+    let makes = fork_makes s pid.0 does.entry.outcome n.next n.acts in
+    let at_new = does.entry.outcome.ret0 in
+    let counts = count_changed s.processes n.next.processes at_new makes.numbers (λ q ne. ap (λ (o : Option Process). is_some o) (makes.others q ne)) in
+    let is = one_at_most (is_some (at n.next.processes at_new)) in
+    let same = does.spare in
+    rw (does.items, n.state, same) (omega (arith, counts, is, room))
+
+pub exec_room : (old new : Room Entry) (pid : Pid) (who : Who) (place : ℕ) → count_by is_some (state_after old.items).processes + 1 ≤ old.spare → Performs old pid who Exec nothing_read place new → HasExitRoom new
+exec_room old new pid who place room does =
+    let s : State = state_after old.items in
+    let n = nexts old.items pid who Exec nothing_read does.entry does.is in
+    let keeps = (exec_keeps s pid.0 nothing_read does.entry.outcome n.next n.acts).1 in
+    let counts = count_changed s.processes n.next.processes 0 keeps.numbers (λ q ne. keeps.live q) in
+    let same : one_if (is_some (at n.next.processes 0)) ≡ one_if (is_some (at s.processes 0)) = ap one_if (keeps.live 0) in
+    let less = does.spare in
+    rw (does.items, n.state, less) (omega (arith, counts, same, room))
 
 pub count_below : (table : List (Option Process)) → count_by is_some table ≤ length table
 count_below [] = omega arith

@@ -16,7 +16,7 @@ use Rattle.kern_model.specs.declared.journal.Entry.{Entry}
 use Rattle.kern_model.specs.declared.journal.Who.TheVariants.{Request}
 use Rattle.kern_model.specs.declared.operation.Op.TheVariants.{Attach}
 use Rattle.kern_calls.specs.Kernel.{Performs}
-use Rattle.hub_model.specs.Ends.{nothing_read}
+use Rattle.hub_model.specs.Journal.{nothing_read}
 use Rattle.hub_model.specs.Requests.{no_process}
 use Rattle.hub_model.proofs.Entries.{nexts, process_numbers, attach_below}
 use Rattle.sp_hub.specs.Kernel.{Attaches}

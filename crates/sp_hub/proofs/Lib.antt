@@ -11,3 +11,8 @@ pub mod Told
 pub mod Works
 pub mod Plays
 pub mod Asks
+pub mod Numbers
+pub mod Handovers
+pub mod Backs
+pub mod AtOnce
+pub mod Images

@@ -52,7 +52,7 @@ plays_refused c r (Some e) journal x some m at here = (false, rw (sym at) refl)
 -- ---- the machine's work of a call
 
 -- a machine that hasn't halted plays each event
-runs : (memory : Bool) (m : Machine) (event : Event) → m.halted ≡ false → played memory m event ≡ played_running memory m event
+pub runs : (memory : Bool) (m : Machine) (event : Event) → m.halted ≡ false → played memory m event ≡ played_running memory m event
 runs memory m event running = ap (λ b. if b then (reply.Closed, m) else played_running memory m event) running
 
 module _ (m : Machine) (c : ConnNo) (r : ReqNo) (x : Connection) (running : m.halted ≡ false) (here : get m.connections c.0 ≡ Some x) where

@@ -109,7 +109,7 @@ call_room old new g place fits room does =
     rw (does.items, n.state) (omega (arith, counts, same, room, less, spare))
 
 -- there is room for what the entry of a gathered call writes
-rooms_at : (journal : List Entry) (g : Gathered) (e : Entry) → FitsEnd journal g → next_of journal g ≡ Some e → HaveRooms (map (λ r. r.len) (outs g.op)) e.outcome.outs
+pub rooms_at : (journal : List Entry) (g : Gathered) (e : Entry) → FitsEnd journal g → next_of journal g ≡ Some e → HaveRooms (map (λ r. r.len) (outs g.op)) e.outcome.outs
 rooms_at journal g e fits is =
     let n = nexts journal g.pid (Request g.no g.number) g.op g.ins e is in
     let acts = subst (λ (o : Op). act (state_after journal) g.pid.0 o g.ins ≡ Some (e.outcome, n.next)) fits.is n.acts in

@@ -8,11 +8,13 @@ ghost use Rattle.sp_base.specs.declared.call.Call.{Call};
 ghost use Rattle.sp_base.specs.declared.need.Need.{Need};
 ghost use Rattle.sp_base.specs.Needs.{needs_of};
 ghost use Rattle.sp_frames.specs.Grammar.{Fits};
+ghost use Rattle.sp_hub.specs.AtOnce.{IsIdle};
 ghost use Rattle.sp_hub.specs.Calls.{waits_in, with_ask};
 ghost use Rattle.sp_hub.specs.Kernel.{Attaches};
 ghost use Rattle.sp_hub.specs.Room.{HasExitRoom};
-ghost use Rattle.hub_model.specs.Ends.{draining, nothing_read};
+ghost use Rattle.hub_model.specs.Ends.{draining};
 ghost use Rattle.hub_model.specs.Frames.{ask, hello, refusal};
+ghost use Rattle.hub_model.specs.Journal.{nothing_read};
 ghost use Rattle.hub_model.specs.Requests.{no_process, with_copy, with_error};
 ghost use Rattle.hub_model.specs.Sound.{is_waiting};
 ghost use Rattle.hub_model.specs.State as state;
@@ -23,6 +25,7 @@ ghost use Rattle.hub_model.specs.declared.state.Condition.TheVariants as conditi
 ghost use Rattle.hub_model.specs.declared.state.OpenCall.{OpenCall};
 ghost use Rattle.hub_model.specs.declared.state.OpenCall.TheVariants as task;
 
+mod handing;
 mod perform;
 
 use crate::{frames, kernel};
@@ -37,8 +40,8 @@ use tables::Table;
 
 /// A connection that isn't over.
 ///
-/// While its client may send something its queue keeps room for an error of each call that waits, and for its last error. Each
-/// frame in the queue is within its row.
+/// While its client may send something its queue keeps room for an error of each call that waits,
+/// and for its last error. Each frame in the queue is within its row.
 #[derive(Drop)]
 pub(crate) struct Connection {
     alloc: Global,
@@ -117,6 +120,23 @@ impl Connection {
         self.last
     }
 
+    /// The process that it speaks for, where no call is open and no frame is queued; else None.
+    pub(crate) fn idle_process(&self) -> Option<Pid>
+        ensures { IfSome result (IsIdle self.now) }
+    {
+        match self.condition {
+            Condition::Live(pid) if self.calls.len() == 0 && self.queue.is_empty() => Some(pid),
+            _ => None,
+        }
+    }
+
+    /// A request of this number was taken.
+    pub(crate) fn use_number(&mut self, number: ReqNo)
+        ensures { self.new ≡ record self.old { last = number.0 } }
+    {
+        self.last = number.0;
+    }
+
     /// How many calls are open.
     pub(crate) fn open_count(&self) -> usize
         ensures { result ≡ map.len self.now.calls }
@@ -138,7 +158,8 @@ impl Connection {
         !matches!(self.calls.get(number), Some(OpenCall::Answers) | None)
     }
 
-    /// The lowest number above a number under which a call is open and not performed; None where there is none.
+    /// The lowest number above a number under which a call is open and not performed; None where
+    /// there is none.
     pub(crate) fn lowest_task(&self, above: ReqNo) -> Option<ReqNo>
         ensures { IsLowest self.now.calls above result }
     {
@@ -149,7 +170,8 @@ impl Connection {
         Some(ReqNo(*number))
     }
 
-    /// Drains it: it drops its calls, takes nothing more, and sends what is queued, with an error as its last frame.
+    /// Drains it: it drops its calls, takes nothing more, and sends what is queued, with an error
+    /// as its last frame.
     pub(crate) fn drain(&mut self, error: Frame)
         requires speaks { IsTrue (speaks self.old.condition) }
         requires fits { Fits error }
@@ -160,14 +182,15 @@ impl Connection {
         self.queue.put_kept(error);
     }
 
-    /// Refuses a request: its error is queued and its number is used up. An error leaves all as it was.
-    pub(crate) fn refuse(&mut self, number: ReqNo, error: Frame) -> Result<(), NoMemory>
-        requires { Fits error }
-        ensures ok { OnOk result (self.new ≡ record self.old { last = number.0; queue = self.old.queue ++ error ∷ [] }) }
+    /// Answers a request with a response or an error, by which its number is used up. An error
+    /// leaves all as it was.
+    pub(crate) fn answer(&mut self, number: ReqNo, frame: Frame) -> Result<(), NoMemory>
+        requires { Fits frame }
+        ensures ok { OnOk result (self.new ≡ record self.old { last = number.0; queue = self.old.queue ++ frame ∷ [] }) }
         ensures err { OnErr result (self.new ≡ self.old) }
     {
         self.queue.keep(1)?;
-        self.queue.put_kept(error);
+        self.queue.put_kept(frame);
         self.last = number.0;
         Ok(())
     }
@@ -212,7 +235,8 @@ impl Connection {
         }
     }
 
-    /// Makes it the connection of a new process, with the response of its handshake behind the queued frames.
+    /// Makes it the connection of a new process, with the response of its handshake behind the
+    /// queued frames.
     ///
     /// An error leaves it and the journal as they were.
     pub(crate) fn attach(

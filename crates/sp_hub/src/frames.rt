@@ -4,13 +4,14 @@ ghost use Rattle.sp_frames.specs.Fields.{IsBytes};
 ghost use Rattle.sp_frames.specs.Grammar.{Fits, may_be_refused};
 ghost use Rattle.sp_frames.specs.declared.frame.Body.TheVariants as body;
 ghost use Rattle.sp_frames.specs.declared.frame.TheConstants.{INDEX_LIMIT};
-ghost use Rattle.hub_model.specs.Frames.{answer_at, ask, hello, refusal, last_error, answered_kind};
+ghost use Rattle.hub_model.specs.Frames.{answer_at, answered_kind, ask, cancelled, exec_ready};
+ghost use Rattle.hub_model.specs.Frames.{forked, hello, imaged, joined, last_error, refusal};
 
 use kern_model::Outcome;
-use sp_base::{Answer, Need, Octets, Pid, Place, ReqNo, SpError};
+use sp_base::{Answer, Cookie, Need, Octets, Pid, Place, ReqNo, SpError};
 use sp_frames::{Body, Frame};
 
-/// The response of a handshake.
+/// The response of a guest's handshake.
 pub(crate) fn hello(number: ReqNo, pid: Pid) -> Frame
     ensures frame { result ≡ hello number pid.0 }
     ensures fits { Fits result }
@@ -18,6 +19,65 @@ pub(crate) fn hello(number: ReqNo, pid: Pid) -> Frame
     Frame {
         number,
         body: Body::Hello { pid },
+    }
+}
+
+/// The response of a child's handshake.
+pub(crate) fn joined(number: ReqNo, pid: Pid) -> Frame
+    ensures frame { result ≡ joined number pid }
+    ensures fits { Fits result }
+{
+    Frame {
+        number,
+        body: Body::Joined { pid },
+    }
+}
+
+/// The response of the handshake of a process's next program, with the place of its exec.
+pub(crate) fn imaged(number: ReqNo, pid: Pid, place: Place) -> Frame
+    ensures frame { result ≡ imaged number pid place.0 }
+    ensures fits { Fits result }
+{
+    Frame {
+        number,
+        body: Body::Imaged { pid, place },
+    }
+}
+
+/// The response of a fork.
+pub(crate) fn forked(number: ReqNo, cookie: Cookie, place: Place, child: Pid) -> Frame
+    ensures frame { result ≡ forked number cookie place.0 child }
+    ensures fits { Fits result }
+{
+    Frame {
+        number,
+        body: Body::Forked {
+            cookie,
+            place,
+            pid: child,
+        },
+    }
+}
+
+/// The response of what takes a cookie back.
+pub(crate) fn cancelled(number: ReqNo) -> Frame
+    ensures frame { result ≡ cancelled number }
+    ensures fits { Fits result }
+{
+    Frame {
+        number,
+        body: Body::Cancelled,
+    }
+}
+
+/// The response of a process that is to go on as its next program.
+pub(crate) fn exec_ready(number: ReqNo, cookie: Cookie) -> Frame
+    ensures frame { result ≡ exec_ready number cookie }
+    ensures fits { Fits result }
+{
+    Frame {
+        number,
+        body: Body::ExecReady { cookie },
     }
 }
 

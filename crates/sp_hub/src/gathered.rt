@@ -4,6 +4,7 @@ ghost use Rattle.sp_base.specs.declared.call.Call.{Call};
 ghost use Rattle.sp_frames.specs.Grammar.{Fits};
 ghost use Rattle.kern_model.specs.declared.operation.Ins.{Ins};
 ghost use Rattle.kern_model.specs.declared.operation.Op.TheVariants as op;
+ghost use Rattle.sp_hub.specs.AtOnce.{asked_at_once};
 ghost use Rattle.sp_hub.specs.Room.{HasExitRoom};
 ghost use Rattle.sp_hub.specs.Work.{waiting, HasAll, IsGathered, outs, next_of, FitsEnd, Appends, Tells};
 
@@ -11,8 +12,11 @@ use crate::telling::Telling;
 use hub_model::OpenCall;
 use kern_calls::{Acted, Kernel};
 use kern_model::{Ins, Op, Who};
-use sp_base::{ConnNo, FIRST_PROCESS, KeptQueue, NoMemory, PROCESSES, Pid, Place, Ranges, ReqNo};
+use sp_base::{
+    Call, ConnNo, FIRST_PROCESS, Items, KeptQueue, NoMemory, PROCESSES, Pid, Place, Ranges, ReqNo,
+};
 use sp_frames::Frame;
+use std::alloc::Global;
 
 /// Room for the exit of each process that there can be. Keeping it costs nothing while it is there.
 const EXITS: u32 = (FIRST_PROCESS + PROCESSES) as u32;
@@ -57,6 +61,25 @@ impl Gathered {
         }
     }
 
+    /// A call that reads nothing, before it is open; takes no memory.
+    pub(crate) fn of_call(
+        alloc: Global,
+        call: Call,
+        pid: Pid,
+        no: ConnNo,
+        number: ReqNo,
+    ) -> Gathered
+        ensures { result ≡ asked_at_once call pid no number }
+    {
+        Gathered {
+            pid,
+            no,
+            number,
+            op: Op::Sys(call),
+            ins: Ins::Given(Items::none(alloc)),
+        }
+    }
+
     /// The open call again.
     pub(crate) fn into_task(self) -> OpenCall
         requires { (call : Call) × (self.op ≡ op.Sys call) }
@@ -83,7 +106,7 @@ impl Gathered {
     }
 
     /// Performs it, and keeps room for each process's exit. An error leaves the journal as it was.
-    fn act(self, kernel: &mut Kernel) -> Result<Place, NoMemory>
+    pub(crate) fn act(self, kernel: &mut Kernel) -> Result<Place, NoMemory>
         requires fits { FitsEnd kernel.old.items self }
         requires ready { IsSome (next_of kernel.old.items self) }
         requires room { HasExitRoom kernel.old }

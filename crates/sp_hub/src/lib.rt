@@ -1,8 +1,10 @@
 //! The server's core: a machine that takes events of many connections, and performs their calls on one kernel.
 #![tactic(auto)]
 
+mod at_once;
 mod blank;
 mod connection;
+mod cookies;
 mod frames;
 mod gathered;
 mod hub;

@@ -1,17 +1,14 @@
-ghost use Rattle.std.specs.Prelude.{◌≡◌, ◌≢◌, true, Some, None, IfOk, OnOk, OnErr, IsSome, IsTrue, false, List};
+ghost use Rattle.std.specs.Prelude.{◌≡◌, ◌≢◌, false, true, IfOk, IsSome, IsTrue, OnErr, OnOk, Some};
 ghost use Rattle.std.specs.Option.{option_copied};
 ghost use Rattle.std.specs.FinMap as map;
-ghost use Rattle.kern_model.specs.Journal.{IsLegal, next_entry, state_after};
-ghost use Rattle.kern_model.specs.declared.journal.Entry.{Entry};
-ghost use Rattle.kern_model.specs.declared.journal.Who.TheVariants.{Request};
-ghost use Rattle.kern_model.specs.declared.operation.Op.TheVariants as op;
+ghost use Rattle.kern_model.specs.Journal.{state_after};
 ghost use Rattle.sp_frames.specs.Grammar.{Fits};
 ghost use Rattle.sp_frames.specs.declared.frame.Frame as frame;
 ghost use Rattle.sp_hub.specs.At.{condition_in};
-ghost use Rattle.hub_model.specs.Ends.{exit_of, close, drain};
-ghost use Rattle.hub_model.specs.Frames.{answered_kind, last_error};
+ghost use Rattle.hub_model.specs.Cookies.{ledger_of, with_ledger};
+ghost use Rattle.hub_model.specs.Ends.{close, drain, left_by};
+ghost use Rattle.hub_model.specs.Journal.{exit_of};
 ghost use Rattle.hub_model.specs.Machine.{Plays, played, any_speaks, open_new, is_new};
-ghost use Rattle.hub_model.specs.Requests as requests;
 ghost use Rattle.hub_model.specs.Sound.{IsSound};
 ghost use Rattle.hub_model.specs.State as state;
 ghost use Rattle.hub_model.specs.State.{fresh_machine, speaks};
@@ -22,28 +19,35 @@ ghost use Rattle.sp_base.specs.declared.names.Pid.{Pid};
 ghost use Rattle.sp_base.specs.Table.{at};
 
 use crate::connection::Connection;
-use crate::{frames, kernel, verdict};
-use hub_model::{Condition, Finish, Reply};
+use crate::{frames, kernel};
+use history::Log;
+use hub_model::{Condition, Finish, Handover, Reply};
 use kern_calls::Kernel;
-use kern_model::Entry;
-use sp_base::{Call, ConnNo, Errno, NoMemory, Pid, ReqNo, SpError};
-use sp_frames::{Body, Frame, Version};
+use kern_model::{Entry, Who};
+use sp_base::{ConnNo, NoMemory, Pid, ReqNo};
+use sp_fork::Cookies;
+use sp_frames::{Frame, Version};
 use std::alloc::Global;
 use std::marker::Model;
 use tables::Table;
 
 /// What the server holds, without what holds of it: it keeps room for the exit of each process.
+///
+/// What was done to hand processes over is noted for proofs alone, the oldest first.
 #[derive(Drop)]
 pub(crate) struct Core {
     pub(crate) alloc: Global,
     version: Version,
     pub(crate) kernel: Kernel,
     pub(crate) connections: Table<Connection>,
+    pub(crate) cookies: Cookies,
+    pub(crate) handovers: Log<Handover>,
     opened: Option<u32>,
     halted: bool,
 }
 
 impl Model for Core {
+    ghost use Rattle.std.specs.Prelude.{reverse};
     ghost use Rattle.sp_hub.specs.Room.{HasExitRoom};
     ghost use Rattle.hub_model.specs.Code.{machine_code};
     ghost use Rattle.hub_model.specs.State.{Machine};
@@ -52,7 +56,15 @@ impl Model for Core {
 
     ghost coded = { machine_code };
 
-    ghost view = { λ h. record { version = h.version; journal = h.kernel.items; connections = h.connections; opened = h.opened; halted = h.halted } };
+    ghost view = { λ h. record {
+      version = h.version;
+      journal = h.kernel.items;
+      connections = h.connections;
+      cookies = h.cookies;
+      handovers = reverse h.handovers.items;
+      opened = h.opened;
+      halted = h.halted;
+    } };
 
     ghost invariant = { λ h. HasExitRoom h.kernel };
 }
@@ -77,6 +89,8 @@ impl Core {
             version,
             kernel: Kernel::fresh(alloc)?,
             connections: Table::new(alloc),
+            cookies: Cookies::fresh(alloc),
+            handovers: Log::new(),
             opened: None,
             halted: false,
         })
@@ -119,7 +133,8 @@ impl Core {
         }
     }
 
-    /// A connection opens, where its number is above every one that was opened. An error leaves all as it was.
+    /// A connection opens, where its number is above every one that was opened. An error leaves all
+    /// as it was.
     fn open_new(&mut self, no: ConnNo) -> Result<Reply, NoMemory>
         ensures reply { IfOk result (λ r. r ≡ (open_new self.old no).0) }
         ensures state { OnOk result (self.new ≡ (open_new self.old no).1) }
@@ -173,45 +188,57 @@ impl Core {
     fn exit(&mut self, no: ConnNo, condition: Condition)
         requires { (pid : Pid) → state.process_in condition ≡ Some pid
             → IsSome (at (state_after self.old.journal).processes pid.0) }
-        ensures { self.new ≡ record self.old { journal = exit_of self.old.journal no (state.process_in condition) } }
+        ensures { self.new ≡ record self.old {
+          journal = exit_of self.old.journal no (state.process_in condition);
+        } }
     {
         if let Some(pid) = process_in(condition) {
-            kernel::exit(&mut self.kernel, no, pid);
+            kernel::exit(&mut self.kernel, Who::End(no), pid);
         }
     }
 
-    /// A connection that speaks drains, with an error as its last frame, and its process exits; takes no memory.
+    /// A connection goes: its unused cookies are taken back, and then its process exits; takes no
+    /// memory.
+    #[tactic(auto, using(crate::proofs::Backs::processes, crate::proofs::Backs::still_live))]
+    fn go(&mut self, no: ConnNo, condition: Condition)
+        requires sound { IsSound self.old }
+        requires at { condition_in (map.get self.old.connections no.0) ≡ Some condition }
+        ensures { self.new ≡ with_ledger self.old
+            (left_by (ledger_of self.old) no (state.process_in condition)) }
+    {
+        self.take_all_back(no);
+        self.exit(no, condition);
+    }
+
+    /// A connection that speaks drains, with an error as its last frame; takes no memory.
     #[tactic(auto, using(crate::proofs::At::there))]
     pub(crate) fn drain(&mut self, no: ConnNo, condition: Condition, error: Frame)
+        requires sound { IsSound self.old }
         requires at { condition_in (map.get self.old.connections no.0) ≡ Some condition }
         requires speaks { IsTrue (speaks condition) }
         requires fits { Fits error }
-        requires live { (pid : Pid) → state.process_in condition ≡ Some pid
-            → IsSome (at (state_after self.old.journal).processes pid.0) }
         ensures { (x : state.Connection) → map.get self.old.connections no.0 ≡ Some x
             → self.new ≡ (drain reply.Nothing self.old no x error).1 }
     {
-        self.exit(no, condition);
+        self.go(no, condition);
         let mut connection = Connection::blank(self.alloc);
         self.connections.swap(no.0 as u64, &mut connection);
         connection.drain(error);
         self.connections.swap(no.0 as u64, &mut connection);
     }
 
-    /// A connection is over, and its process exits; takes no memory.
+    /// A connection is over; takes no memory.
     fn close(&mut self, no: ConnNo, condition: Condition)
+        requires sound { IsSound self.old }
         requires at { condition_in (map.get self.old.connections no.0) ≡ Some condition }
-        requires live { (pid : Pid) → state.process_in condition ≡ Some pid
-            → IsSome (at (state_after self.old.journal).processes pid.0) }
         ensures { (x : state.Connection) → map.get self.old.connections no.0 ≡ Some x
             → self.new ≡ (close self.old no x).1 }
     {
-        self.exit(no, condition);
+        self.go(no, condition);
         self.connections.remove(no.0 as u64);
     }
 
     /// The input of a connection ends; takes no memory.
-    #[tactic(auto, using(crate::proofs::At::live_at))]
     pub(crate) fn ended(&mut self, no: ConnNo, finish: Finish) -> Reply
         requires running { self.old.halted ≡ false }
         requires sound { IsSound self.old }
@@ -230,7 +257,6 @@ impl Core {
     }
 
     /// The link of a connection is lost; takes no memory.
-    #[tactic(auto, using(crate::proofs::At::live_at))]
     pub(crate) fn lost(&mut self, no: ConnNo) -> Reply
         requires running { self.old.halted ≡ false }
         requires sound { IsSound self.old }
@@ -264,7 +290,8 @@ impl Core {
         Reply::Closed
     }
 
-    /// The lowest number above a number under which a call of the connection is open and not performed.
+    /// The lowest number above a number under which a call of the connection is open and not
+    /// performed.
     pub(crate) fn lowest_task(&self, no: ConnNo, above: ReqNo) -> Option<ReqNo>
         ensures { IsLowest (open_calls self.now no) above result }
     {

@@ -1,4 +1,5 @@
 // What no clause names: what the rules answer in worked cases, and that an event with ample memory is played.
+mod cookies;
 mod copies;
 mod guests;
 mod hostile;
@@ -15,12 +16,14 @@ use std::test::Fail;
 pub enum Said<'a> {
     /// A handshake.
     Guest,
-    Join,
-    Image,
+    /// A handshake by the cookie of a number and a salt.
+    Join(u64, u64),
+    Image(u64, u64),
     /// The call of a number with its words.
     Call(u32, &'a [u64]),
     Prefork,
-    Cancel,
+    /// The cookie of a number and a salt is to be taken back.
+    Cancel(u64, u64),
     Preexec,
     /// Bytes of an index and with an error number.
     Bytes(u32, u32, &'a str),
@@ -115,18 +118,25 @@ fn long_text(alloc: Global, count: usize) -> Result<Octets, NoMemory> {
 
 /// The body of a frame.
 fn body(alloc: Global, said: Said) -> Result<Body, NoMemory> {
-    let cookie = Cookie { number: 0, salt: 0 };
     let name = Octets::of(alloc, b"guest")?;
     Ok(match said {
         Said::Guest => Body::Guest { name },
-        Said::Join => Body::Join { cookie, name },
-        Said::Image => Body::Image { cookie, name },
+        Said::Join(number, salt) => Body::Join {
+            cookie: Cookie { number, salt },
+            name,
+        },
+        Said::Image(number, salt) => Body::Image {
+            cookie: Cookie { number, salt },
+            name,
+        },
         Said::Call(num, words) => Body::Sys {
             num,
             words: Words::of(&words[..words.len().min(8)]),
         },
         Said::Prefork => Body::Prefork,
-        Said::Cancel => Body::Cancel { cookie },
+        Said::Cancel(number, salt) => Body::Cancel {
+            cookie: Cookie { number, salt },
+        },
         Said::Preexec => Body::Preexec,
         Said::Bytes(index, err, text) => Body::GotBytes {
             index,
@@ -147,11 +157,14 @@ fn body(alloc: Global, said: Said) -> Result<Body, NoMemory> {
     })
 }
 
-/// A frame that comes over a connection.
+/// A frame that comes over a connection. Its salt is 1,000 above its number.
 fn frame(alloc: Global, no: u32, number: u64, said: Said) -> Result<Event, NoMemory> {
-    let number = ReqNo(number);
     let body = body(alloc, said)?;
-    Ok(Event::Frame(ConnNo(no), Frame { number, body }, 0))
+    let frame = Frame {
+        number: ReqNo(number),
+        body,
+    };
+    Ok(Event::Frame(ConnNo(no), frame, number.wrapping_add(1_000)))
 }
 
 /// The event of a row.
@@ -180,6 +193,16 @@ pub fn play_all(
         let reply = hub.play(event(alloc, *step)?);
         let shown = format!(in alloc; "{reply:?}")?;
         assert_eq!(rt; shown.as_str(), *want, "at {step:?}");
+    }
+    Ok(())
+}
+
+/// Whether the journal is the one of these texts.
+pub fn journal_is(rt: &impl Abort, alloc: Global, hub: &Hub, journal: &[&str]) -> Result<(), Fail> {
+    assert_eq!(rt; hub.journal().len(), journal.len());
+    for (entry, want) in hub.journal().iter().zip(journal.iter()) {
+        let shown = format!(in alloc; "{:?} {:?} {:?}", entry.pid, entry.who, entry.op)?;
+        assert_eq!(rt; shown.as_str(), *want);
     }
     Ok(())
 }

@@ -1,5 +1,5 @@
 // Guests that come and go, and how many of them and of their calls there can be.
-use crate::tests::{Said, Step, event, play_all};
+use crate::tests::{Said, Step, event, journal_is, play_all};
 use crate::{Event, Hub, Reply};
 use sp_base::{ConnNo, ReqNo};
 use std::test::Fail;
@@ -168,12 +168,7 @@ fn a_connection_opens_once(rt: HostRuntime) -> Result<(), Fail> {
 fn processes_come_and_go(rt: HostRuntime) -> Result<(), Fail> {
     let mut hub = Hub::fresh(rt.alloc())?;
     play_all(&rt, rt.alloc(), &mut hub, &GUESTS)?;
-    assert_eq!(rt; hub.journal().len(), JOURNAL.len());
-    for (entry, want) in hub.journal().iter().zip(JOURNAL.iter()) {
-        let shown = format!(in rt.alloc(); "{:?} {:?} {:?}", entry.pid, entry.who, entry.op)?;
-        assert_eq!(rt; shown.as_str(), *want);
-    }
-    Ok(())
+    journal_is(&rt, rt.alloc(), &hub, &JOURNAL)
 }
 
 #[test]

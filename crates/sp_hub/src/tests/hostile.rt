@@ -31,17 +31,17 @@ type Row = (Before, u64, Said<'static>, u64, u16);
 const FRESH: [Row; 9] = [
     (Before::Fresh, 0, Said::Guest, 0, 0),
     (Before::Fresh, 1, Said::Call(1, &[]), 1, 1),
-    (Before::Fresh, 1, Said::Join, 1, 0),
-    (Before::Fresh, 1, Said::Image, 1, 0),
+    (Before::Fresh, 0, Said::Join(1, 0), 0, 0),
+    (Before::Fresh, 0, Said::Image(1, 0), 0, 0),
     (Before::Fresh, 1, Said::Prefork, 1, 5),
-    (Before::Fresh, 1, Said::Cancel, 1, 5),
+    (Before::Fresh, 1, Said::Cancel(1, 0), 1, 5),
     (Before::Fresh, 1, Said::Preexec, 1, 6),
     (Before::Fresh, 1, Said::Bytes(0, 0, "hello"), 0, 0),
     (Before::Fresh, 1, Said::Text(0, 0, "/notes"), 0, 0),
 ];
 
 /// Requests on a connection with a process: a second handshake, numbers that aren't above the last one, wrong counts of words, and
-/// what isn't known by now.
+/// calls that aren't known by now.
 const GUEST: [Row; 16] = [
     (Before::Guest, 2, Said::Guest, 2, 0),
     (Before::Guest, 1, Said::Guest, 1, 0),
@@ -54,11 +54,11 @@ const GUEST: [Row; 16] = [
     (Before::Guest, 2, Said::Call(5, &[0, 4096, 5, 0]), 2, 1),
     (Before::Guest, 2, Said::Call(21, &[]), 2, 1),
     (Before::Guest, 2, Said::Call(33, &[0, 0, 0]), 2, 1),
-    (Before::Guest, 2, Said::Join, 2, 0),
-    (Before::Guest, 2, Said::Image, 2, 0),
-    (Before::Guest, 2, Said::Prefork, 2, 5),
-    (Before::Guest, 2, Said::Cancel, 2, 5),
-    (Before::Guest, 2, Said::Preexec, 2, 6),
+    (Before::Guest, 2, Said::Join(1, 0), 2, 0),
+    (Before::Guest, 2, Said::Image(1, 0), 2, 0),
+    (Before::Guest, 1, Said::Prefork, 1, 5),
+    (Before::Guest, 1, Said::Cancel(1, 0), 1, 5),
+    (Before::Guest, 1, Said::Preexec, 1, 6),
 ];
 
 /// Classes and types that a client never sends.

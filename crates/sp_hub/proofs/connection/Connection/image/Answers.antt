@@ -1,0 +1,28 @@
+use Rattle.std.proofs.Common.{sym, ap, subst, arith}
+use Rattle.std.specs.Prelude.{IsTrue}
+use Rattle.sp_base.specs.Kept.{Room}
+use Rattle.sp_frames.specs.Grammar.{Fits}
+use Rattle.sp_frames.specs.declared.frame.Frame.{Frame}
+use Rattle.hub_model.specs.State.{Connection, speaks}
+use Rattle.hub_model.proofs.Keeps.{all_push}
+use Rattle.sp_hub.proofs.RoomLaws.{room_more}
+use Rattle.sp_hub.proofs.connection.Connection.image.Goals as goal
+
+pub invariant_of-self-in-Ok : goal.invariant_of-self-in-Ok
+invariant_of-self-in-Ok c = record {
+  room = λ _. (
+      let more = ap (λ (r : Room Frame). r.spare) c.in_ok-keep.ensures.ok in
+      let less = c.put_kept.ensures.spare in
+      let may = subst (λ (x : Connection). IsTrue (speaks x.condition)) (sym c.self.view_is) c.requires.speaks in
+      room_more c.self.inside.calls c.self.inside.queue.spare c.put_kept.new.self.spare (c.self.invariant.room may) (omega arith));
+  fits = rw (c.put_kept.ensures.items, c.in_ok-keep.ensures.ok) (all_push Fits c.self.inside.queue.items c.imaged.result c.self.invariant.fits c.imaged.ensures.fits);
+}
+
+pub invariant_of-self-in-Err : goal.invariant_of-self-in-Err
+invariant_of-self-in-Err c = record {
+  room = λ speaks. (
+      let more = ap (λ (r : Room Frame). r.spare) c.in_ok-keep.ensures.ok in
+      let less = c.free.ensures.spare in
+      room_more c.self.inside.calls c.self.inside.queue.spare c.free.new.self.spare (c.self.invariant.room speaks) (omega arith));
+  fits = rw (c.free.ensures.items, c.in_ok-keep.ensures.ok) c.self.invariant.fits;
+}

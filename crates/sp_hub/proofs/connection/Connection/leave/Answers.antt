@@ -1,0 +1,10 @@
+use Rattle.std.proofs.Common.{sym, subst}
+use Rattle.std.specs.Prelude.{IsTrue}
+use Rattle.hub_model.specs.State.{Connection, speaks}
+use Rattle.sp_hub.proofs.connection.Connection.leave.Goals as goal
+
+pub invariant_of-self : goal.invariant_of-self
+invariant_of-self c = record {
+  room = λ _. c.self.invariant.room (subst (λ (x : Connection). IsTrue (speaks x.condition)) (sym c.self.view_is) c.requires);
+  fits = c.self.invariant.fits;
+}
