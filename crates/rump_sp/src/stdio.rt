@@ -71,8 +71,7 @@ pub fn stdio_main<I: Source, S: Salt, O: Sink, E: Sink>(
         ⊎ Rose (O.faults out.old) (O.faults out.new) }
     ensures read { result ≡ 0 → I.ended input.new ≡ true }
 
-    // What stays: by now no frame takes a salt.
-    ensures salt { salt.new ≡ salt.old }
+    // What stays.
     ensures input_open { I.is_done input.new ≡ false }
     ensures out_open { O.is_done out.new ≡ false }
     ensures err_open { E.is_done err.new ≡ false }

@@ -50,7 +50,7 @@ pub fn rump_main<W: AsStr, S: Salt, I: Source, O: Sink, E: Sink>(
         × Tells (E.faults err.old) (E.faults err.new) (E.held err.old) (E.held err.new)
         (told_of failure) }
 
-    // What a script's guests do, and what is written of it; it takes no salt.
+    // What a script's guests do, and what is written of it; by now it takes no salt.
     ensures no_salt_needed { (journals : Bool)
         → AsksFor (map W.text words.now) (Asked.Bench journals) → result ≢ 71 }
     ensures script { (journals : Bool)
@@ -92,8 +92,8 @@ pub fn rump_main<W: AsStr, S: Salt, I: Source, O: Sink, E: Sink>(
     ensures wrong { asked_of (map W.text words.now) ≡ None → ((result ≡ 64) ⊎ (result ≡ 75))
         × (input.new ≡ input.old) × (out.new ≡ out.old) }
 
-    // What stays: by now no frame takes a salt.
-    ensures salt { salt.new ≡ salt.old }
+    // What stays: only a served connection draws a salt.
+    ensures salt { (AsksFor (map W.text words.now) Asked.Stdio → ⊥) → salt.new ≡ salt.old }
     ensures input_open { I.is_done input.new ≡ false }
     ensures out_open { O.is_done out.new ≡ false }
     ensures err_open { E.is_done err.new ≡ false }

@@ -242,6 +242,7 @@ bad_stays input later salts refused fault offset text all out =
         frames = was.frames;
         body = was.body;
         whole = fault_ends_the_frames input later was.frames out.rest fault all was.whole out.ends;
+        as_many = was.as_many;
         answers = was.answers;
         begins = was.begins;
       };

@@ -1,8 +1,10 @@
 pub mod Octets
+pub mod Salts
 pub mod Works
 pub mod Shrinking
 pub mod Refusing
 pub mod Rounds
+pub mod Moves
 pub mod SessionLaws
 pub mod RunLaws
 pub mod EndLaws
@@ -10,3 +12,4 @@ pub mod Outs
 pub mod RunsLaws
 pub mod Refusals
 pub mod Told
+pub mod AtOnce

@@ -1,7 +1,7 @@
 -- Something is to be written for every input, and what is written for its first frames begins it.
 use Rattle.std.proofs.Common.{◌≡◌, ◌⊎◌, inl, inr, ℕ, zero, suc, ◌+◌, ◌-◌, ◌≤◌, ◌<◌, Bool, true, false, cond, List, [], ◌∷◌, ◌++◌, length, take, drop, Option, Some, None, refl, sym, ap, subst, ◌∙◌, arith, append_assoc, length-append}
 use Rattle.std.proofs.lemmas.Bool.{cases_lt}
-use Rattle.std.proofs.lemmas.List.{take_min, take-append-le, length-drop}
+use Rattle.std.proofs.lemmas.List.{append-nil, take_min, take-append-le, length-drop}
 use Rattle.std.specs.Prelude.{min}
 use Rattle.std.specs.List.{flat_map}
 use Rattle.std.specs.Ordering.{nat_cmp}
@@ -32,9 +32,10 @@ use Rattle.hub_model.specs.declared.state.OpenCall.{OpenCall}
 use Rattle.tables.proofs.Maps.{same_or_not}
 use Rattle.sp_server.specs.Serving.{Server, server_of, reply_to, after, refused_behind, work_reply, after_work, is_out, worked, performs, AreOpen, AreRounds, HandsOut}
 use Rattle.sp_server.specs.Session.{IsBegun, IsAllOf, IsPart}
-use Rattle.sp_server.specs.Stdio.{connection, at_start, salt_for, salts_behind, AnswersFrame, Answers, IsAnswered, EndsAs, IsStdioOut, IsCutOff}
+use Rattle.sp_server.specs.Stdio.{connection, at_start, AreSaltsOf, salt_for, salts_behind, AnswersFrame, Answers, IsAnswered, EndsAs, IsStdioOut, IsFirstOf, IsCutOff}
 use Rattle.sp_server.specs.Waiting.{waits_at, bound, waiting}
 use Rattle.sp_server.proofs.Octets.{bytes-back, bytes-drop}
+use Rattle.sp_server.proofs.Salts.{takers, takers-append, salts_append, answers_then}
 use Rattle.sp_server.proofs.Shrinking.{queued, taken_less, within, work_waits, round_less}
 
 some_same : (a b : OpenCall) → Some a ≡ Some b → a ≡ b
@@ -195,12 +196,6 @@ some_answers (f ∷ frames) m salts =
     let rest = some_answers frames hands.1 (salts_behind f salts) in
     (flat_map spelling hands.0 ++ rest.0, rest.1, (server_of hands.1 [], flat_map spelling hands.0, rest.0, one, rest.2, refl))
 
--- what is written for frames, and then for others
-answers_then : (frames later : List Frame) (s t u : Server) (text more : List ℕ) → Answers s frames [] text t → Answers t later [] more u → Answers s (frames ++ later) [] (text ++ more) u
-answers_then [] later s t u text more a b = subst (λ (l : List ℕ). Answers s later [] (l ++ more) u) (sym a.0) (subst (λ (v : Server). Answers v later [] more u) a.1 b)
-answers_then (f ∷ frames) later s t u text more a b =
-    (a.0, a.1, a.2 ++ more, a.3, answers_then frames later a.0 t u a.2 more a.4 b, ap (λ (l : List ℕ). l ++ more) a.5 ∙ append_assoc a.1 a.2 more)
-
 -- ---- the whole frames of bytes, and what stands behind them
 
 -- bytes are frames, and behind them stands a fault or none
@@ -245,9 +240,9 @@ some_finish (b ∷ rest) None met = (finish.Inside, ((λ e. absurd cc), met))
 some_finish rest (Some fault) met = (finish.Bad fault, met)
 
 -- something is to be written at the end of input whose whole frames are answered
-out_of_front : (input rest front : List ℕ) (refused : List ReqNo) (m : Machine) (stop : Option FrameFault) → IsAnswered input [] refused front rest m → IsStop stop rest
-    → (how : Finish) × (offset : ℕ) × (whole : List ℕ) × (more : List ℕ) × (whole ≡ front ++ more) × IsStdioOut input [] refused how offset whole
-out_of_front input rest front refused m stop is met =
+out_of_front : (input salts rest front : List ℕ) (refused : List ReqNo) (m : Machine) (stop : Option FrameFault) → IsAnswered input salts refused front rest m → IsStop stop rest
+    → (how : Finish) × (offset : ℕ) × (whole : List ℕ) × (more : List ℕ) × (whole ≡ front ++ more) × IsStdioOut input salts refused how offset whole
+out_of_front input salts rest front refused m stop is met =
     let how = some_finish rest stop met in
     let hands = some_hands (after m (event.Ended connection how.0)) connection in
     let few : length rest ≤ length input = rw (is.whole.whole, length-append (flat_map spelling is.frames) rest) (omega arith) in (
@@ -259,24 +254,15 @@ out_of_front input rest front refused m stop is met =
       record { front = front; rest = rest; before = m; last = hands.1; frames = hands.0; answered = is; ends = how.1; place = omega arith; hands = hands.2; whole = refl },
     )
 
--- something is to be written for every input, where no call is refused for memory
-pub some_out : (input : List ℕ) → IsBytes input → (how : Finish) × (offset : ℕ) × (whole : List ℕ) × IsStdioOut input [] [] how offset whole
-some_out input all =
-    let split = some_split input all in
-    let answers = some_answers split.frames at_start [] in
-    let is : IsAnswered input [] [] (banner ++ answers.0) split.rest answers.1 = record { frames = split.frames; body = answers.0; whole = split.whole; answers = answers.2; begins = refl } in
-    let out = out_of_front input split.rest (banner ++ answers.0) [] answers.1 split.stop is split.met in
-    (out.0, out.1, out.2, out.5)
-
 -- ---- parts
 
--- the whole frames of the input, of which the first are answered
-record Continues (input text : List ℕ) (refused : List ReqNo) : Type 0 where
+-- the whole frames of the input, of which the first are answered, with salts for all
+record Continues (input salts text : List ℕ) (refused : List ReqNo) : Type 0 where
   more : List ℕ
   rest : List ℕ
   last : Machine
   stop : Option FrameFault
-  answered : IsAnswered input [] refused (text ++ more) rest last
+  answered : IsAnswered input salts refused (text ++ more) rest last
   met : IsStop stop rest
 
 -- where the frames of a front are known, so are those of the input
@@ -297,46 +283,99 @@ whole_split input front more rest frames is whole all =
 behind_banner : (text body later : List ℕ) → text ≡ banner ++ body → text ++ later ≡ banner ++ (body ++ later)
 behind_banner text body later begins = ap (λ (t : List ℕ). t ++ later) begins ∙ append_assoc banner body later
 
--- the frames behind the first ones are answered
-continues : (input text : List ℕ) → IsBytes input → (so : IsBegun input text) → Continues input text so.refused
-continues input text all so =
-    let frames = so.frames ++ so.later in
-    let split = whole_split input so.front so.more so.rest frames so.is so.whole all in
-    let others = so.later ++ split.0.frames in
-    let later = some_answers others so.last [] in
+-- the bytes behind the frames of which first ones are answered
+abbrev Behind : (input salts text : List ℕ) → IsBegun input salts text → Type 0
+Behind input salts text so = Split (so.rest ++ so.more)
+
+-- the salts that are drawn for later frames, and those that come then, are as many as the later frames that take one
+others_salted : (later others : List Frame) (unused more : List ℕ) → length unused ≤ takers later → length more ≡ takers (later ++ others) - length unused → AreSaltsOf (later ++ others) (unused ++ more)
+others_salted later others unused more few is =
+    let all = takers-append later others in
+    rw (length-append unused more) (omega arith)
+
+-- the frames behind the first ones are answered, whichever salts they get
+continues : (input salts text more : List ℕ) (so : IsBegun input salts text) (split : Behind input salts text so) → IsWhole input ((so.frames ++ so.later) ++ split.frames) split.rest
+    → length more ≡ takers (so.later ++ split.frames) - length so.unused → Continues input (salts ++ more) text so.refused
+continues input salts text more so split whole enough =
+    let others = so.later ++ split.frames in
+    let given = so.unused ++ more in
+    let later = some_answers others so.last given in
     let start = server_of at_start so.refused in
-    let answers = answers_then so.frames others start (server_of so.last []) (server_of later.1 []) so.body later.0 so.answers later.2 in
+    let answers = answers_then so.frames others start (server_of so.last []) (server_of later.1 []) so.used given so.body later.0 so.as_many so.answers later.2 in
+    let drawn : so.used ++ given ≡ salts ++ more = sym (append_assoc so.used so.unused more) ∙ ap (λ (l : List ℕ). l ++ more) (sym so.drawn) in
+    let frames : so.frames ++ others ≡ (so.frames ++ so.later) ++ split.frames = sym (append_assoc so.frames so.later split.frames) in
+    let as_many = salts_append so.frames others so.used given so.as_many (others_salted so.later split.frames so.unused more so.few enough) in
     record {
       more = later.0;
-      rest = split.0.rest;
+      rest = split.rest;
       last = later.1;
-      stop = split.0.stop;
+      stop = split.stop;
       answered = record {
-        frames = frames ++ split.0.frames;
+        frames = (so.frames ++ so.later) ++ split.frames;
         body = so.body ++ later.0;
-        whole = split.1;
-        answers = subst (λ (fs : List Frame). Answers start fs [] (so.body ++ later.0) (server_of later.1 [])) (sym (append_assoc so.frames so.later split.0.frames)) answers;
+        whole = whole;
+        as_many = subst (λ (fs : List Frame). AreSaltsOf fs (salts ++ more)) frames (subst (λ (l : List ℕ). AreSaltsOf (so.frames ++ others) l) drawn as_many);
+        answers = subst (λ (fs : List Frame). Answers start fs (salts ++ more) (so.body ++ later.0) (server_of later.1 [])) frames
+            (subst (λ (l : List ℕ). Answers start (so.frames ++ others) l (so.body ++ later.0) (server_of later.1 [])) drawn answers);
         begins = behind_banner text so.body later.0 so.begins;
       };
-      met = split.0.met;
+      met = split.met;
     }
 
--- what is written for first frames of the input begins what is to be written for the input
-begun_begins : (input text : List ℕ) → IsBytes input → (so : IsBegun input text)
-    → (how : Finish) × (offset : ℕ) × (whole : List ℕ) × (more : List ℕ) × (whole ≡ text ++ more) × IsStdioOut input [] so.refused how offset whole
-begun_begins input text all so =
-    let on = continues input text all so in
-    let out = out_of_front input on.rest (text ++ on.more) so.refused on.last on.stop on.answered on.met in
-    (out.0, out.1, out.2, on.more ++ out.3, out.4 ∙ append_assoc text on.more out.3, out.5)
+-- first bytes of what is written for first frames are first bytes of what is written for the input
+first_of_begun : (input salts text whole : List ℕ) (refused : List ReqNo) (count : ℕ) → Continues input salts whole refused → text ≡ take count whole → IsFirstOf input salts refused text
+first_of_begun input salts text whole refused count on cut =
+    let out = out_of_front input salts on.rest (whole ++ on.more) refused on.last on.stop on.answered on.met in
+    let all : out.2 ≡ whole ++ (on.more ++ out.3) = out.4 ∙ append_assoc whole on.more out.3 in
+    let few : min count (length whole) ≤ length whole = omega arith in
+    let front : take (min count (length whole)) (whole ++ (on.more ++ out.3)) ≡ take count whole = take-append-le (min count (length whole)) whole (on.more ++ out.3) few ∙ take_min count whole in
+    record { how = out.0; offset = out.1; whole = out.2; count = min count (length whole); out = out.5; cut = cut ∙ sym front ∙ ap (take (min count (length whole))) (sym all) }
+
+-- no salts behind these
+none_lacking : (input salts later text : List ℕ) (refused : List ReqNo) → length later ≡ 0 → IsFirstOf input salts refused text → IsFirstOf input (salts ++ later) refused text
+none_lacking input salts [] text refused none is = subst (λ (l : List ℕ). IsFirstOf input l refused text) (sym (append-nil salts)) is
+none_lacking input salts (x ∷ later) text refused none is = absurd (omega arith)
 
 -- a part of what is to be written for the input is first bytes of it, where some calls are refused for memory
-pub part_cut : (input text : List ℕ) → IsBytes input → IsPart input text → (refused : List ReqNo) × IsCutOff input [] refused text
-part_cut input text all part = by_part part.whole part.count part.written part.cut
+pub part_cut : (input salts text : List ℕ) → IsBytes input → IsPart input salts text → (refused : List ReqNo) × IsCutOff input salts refused text
+part_cut input salts text all part = by_part part.whole part.count part.written part.cut
   where
-    by_part : (whole : List ℕ) (count : ℕ) → IsBegun input whole ⊎ IsAllOf input whole → text ≡ take count whole → (refused : List ReqNo) × IsCutOff input [] refused text
-    by_part whole count (inr is) cut = (is.refused, record { how = is.how; offset = is.offset; whole = whole; count = count; out = is.out; cut = cut })
-    by_part whole count (inl begun) cut =
-        let out = begun_begins input whole all begun in
-        let few : min count (length whole) ≤ length whole = omega arith in
-        let front : take (min count (length whole)) (whole ++ out.3) ≡ take count whole = take-append-le (min count (length whole)) whole out.3 few ∙ take_min count whole in
-        (begun.refused, record { how = out.0; offset = out.1; whole = out.2; count = min count (length whole); out = out.5; cut = cut ∙ sym front ∙ ap (take (min count (length whole))) (sym out.4) })
+    by_part : (whole : List ℕ) (count : ℕ) → IsBegun input salts whole ⊎ IsAllOf input salts whole → text ≡ take count whole → (refused : List ReqNo) × IsCutOff input salts refused text
+    by_part whole count (inr is) cut = (
+      is.refused,
+      record { lacking = 0; first = λ later none. none_lacking input salts later text is.refused none (record { how = is.how; offset = is.offset; whole = whole; count = count; out = is.out; cut = cut }) },
+    )
+    by_part whole count (inl so) cut =
+        let split = whole_split input so.front so.more so.rest (so.frames ++ so.later) so.is so.whole all in (
+          so.refused,
+          record {
+            lacking = takers (so.later ++ split.0.frames) - length so.unused;
+            first = λ later enough. first_of_begun input (salts ++ later) text whole so.refused count (continues input salts whole later so split.0 split.1 enough) cut;
+          },
+        )
+
+-- where nothing is taken, nothing is a part of what is to be written
+pub nothing_cut : (refused : List ReqNo) × IsCutOff [] [] refused []
+nothing_cut =
+    let none : IsBytes [] = λ i. omega arith in
+    let split = some_split [] none in
+    let begun : IsBegun [] [] (banner ++ []) = record {
+      front = [];
+      more = [];
+      frames = [];
+      later = split.frames;
+      rest = split.rest;
+      body = [];
+      used = [];
+      unused = [];
+      refused = [];
+      last = at_start;
+      is = refl;
+      whole = split.whole;
+      drawn = refl;
+      as_many = refl;
+      few = omega arith;
+      answers = (refl, refl);
+      begins = refl;
+    } in
+    part_cut [] [] [] none (record { whole = banner ++ []; count = 0; written = inl begun; cut = refl })

@@ -3,7 +3,7 @@ use Rattle.std.proofs.Common.{◌≡◌, inl, inr, ℕ, ◌+◌, Bool, true, fal
 use Rattle.std.proofs.lemmas.Bool.{eqb-true}
 use Rattle.std.proofs.lemmas.Grind.{flat_map-append}
 use Rattle.std.proofs.lemmas.List.{append-nil}
-use Rattle.std.specs.Prelude.{◌==◌, nat_le, not, is_none, slice_get, ⊤}
+use Rattle.std.specs.Prelude.{◌==◌, ◌||◌, nat_le, not, is_none, slice_get, ⊤}
 use Rattle.std.specs.FinMap.{get, insert, len}
 use Rattle.sp_base.specs.Call.{wanted_words, call_of}
 use Rattle.sp_base.specs.Needs.{needs_of}
@@ -11,6 +11,8 @@ use Rattle.sp_base.specs.Table.{lowest_unused}
 use Rattle.sp_base.specs.declared.errno.Errno.TheVariants.{Efault, Enametoolong}
 use Rattle.sp_base.specs.declared.limits.TheConstants.{FIRST_PROCESS}
 use Rattle.sp_base.specs.declared.names.ConnNo.{ConnNo}
+use Rattle.sp_base.specs.declared.names.Cookie.{Cookie}
+use Rattle.sp_base.specs.declared.names.Pid.{Pid}
 use Rattle.sp_base.specs.declared.names.ReqNo.{ReqNo}
 use Rattle.sp_base.specs.declared.names.SpError.{SpError}
 use Rattle.sp_base.specs.declared.names.SpError.TheVariants as error
@@ -23,15 +25,20 @@ use Rattle.kern_model.specs.State.{State}
 use Rattle.kern_model.specs.Journal.{state_after, next_entry}
 use Rattle.kern_model.specs.declared.journal.Entry.{Entry}
 use Rattle.kern_model.specs.declared.journal.Who.TheVariants.{Request}
-use Rattle.kern_model.specs.declared.operation.Op.TheVariants.{Attach}
+use Rattle.kern_model.specs.declared.operation.Op.TheVariants as op
+use Rattle.sp_fork.specs.Jar.{Jar, cancellable, is_full, redeemable}
+use Rattle.sp_fork.specs.declared.unused.CookieKind.TheVariants as kind
+use Rattle.sp_fork.specs.declared.unused.Unused.{Unused}
 use Rattle.kern_model.specs.declared.outcome.OutPiece.{OutPiece}
 use Rattle.kern_model.specs.declared.outcome.Outcome.{Outcome}
-use Rattle.hub_model.specs.Ends.{nothing_read, exit_of, draining, close, end_by, end_at}
-use Rattle.hub_model.specs.Frames.{hello, ask, puts_from, told, answered_kind, refusal, last_error}
+use Rattle.hub_model.specs.Ends.{draining, gone, close, end_by, end_at}
+use Rattle.hub_model.specs.Cookies.{next_cookie}
+use Rattle.hub_model.specs.Frames.{hello, joined, imaged, forked, cancelled, exec_ready, ask, puts_from, told, answered_kind, refusal, last_error}
+use Rattle.hub_model.specs.Journal.{nothing_read}
 use Rattle.hub_model.specs.Machine.{played_running}
-use Rattle.hub_model.specs.Requests.{no_process, attach, refuse, go_on, bytes_in, with_copy, with_error, frame_by, frame_at}
+use Rattle.hub_model.specs.Requests.{no_process, attach, join, left_at, image_by, image, fork_by, fork, ready, cancel, refuse, go_on, bytes_in, with_copy, with_error, frame_by, frame_at}
 use Rattle.hub_model.specs.State.{Connection, Machine, Played, with_connection, process_in, is_live, is_fresh, is_draining}
-use Rattle.hub_model.specs.Verdict.{is_other_count, is_later_call, copy_by_error, need_verdict, copy_verdict, error_in, body_verdict, verdict_of}
+use Rattle.hub_model.specs.Verdict.{is_other_count, is_later_call, call_verdict, guest_verdict, takeover_verdict, fork_verdict, ready_verdict, cancel_verdict, request_verdict, copy_by_error, need_verdict, copy_verdict, error_in, body_verdict, verdict_of}
 use Rattle.hub_model.specs.Work.{calls_after, performed}
 use Rattle.hub_model.specs.declared.event.Event.TheVariants as event
 use Rattle.hub_model.specs.declared.event.Finish.{Finish}
@@ -71,11 +78,15 @@ pub record IsStill (m m' : Machine) (c : ConnNo) : Type 0 where
 still : (m : Machine) (c : ConnNo) → IsStill m m c
 still m c = record { halted = refl; told = refl }
 
-queues : (m : Machine) (journal : List Entry) (c : ConnNo) (x x' : Connection) → get m.connections c.0 ≡ Some x → refusals x'.queue ≡ refusals x.queue → IsStill m (with_connection (record m { journal = journal }) c x') c
-queues m journal c x x' here same = record {
-  halted = refl;
-  told = ap (λ (o : Option Connection). refusals (queue_in o)) (get_put m.connections c.0 x') ∙ same ∙ sym (ap (λ (o : Option Connection). refusals (queue_in o)) here);
+-- the connection changes, whatever else does
+queues_in : (m n : Machine) (c : ConnNo) (x x' : Connection) → n.halted ≡ m.halted → get m.connections c.0 ≡ Some x → refusals x'.queue ≡ refusals x.queue → IsStill m (with_connection n c x') c
+queues_in m n c x x' halted here same = record {
+  halted = halted;
+  told = ap (λ (o : Option Connection). refusals (queue_in o)) (get_put n.connections c.0 x') ∙ same ∙ sym (ap (λ (o : Option Connection). refusals (queue_in o)) here);
 }
+
+queues : (m : Machine) (journal : List Entry) (c : ConnNo) (x x' : Connection) → get m.connections c.0 ≡ Some x → refusals x'.queue ≡ refusals x.queue → IsStill m (with_connection (record m { journal = journal }) c x') c
+queues m journal c x x' here same = queues_in m (record m { journal = journal }) c x x' refl here same
 
 -- ---- a frame comes
 
@@ -102,20 +113,51 @@ call_harmless (Some (Gathers call got false)) b = tt
 call_harmless (Some (Fails call why)) b = tt
 call_harmless (Some Answers) b = tt
 
-body_harmless : (s : State) (x : Connection) (n : ℕ) (b : Body) → Harmless (body_verdict s x n b)
-body_harmless s x n (body.Guest name) =
-    test (nat_le n x.last) verdict.Malformed _ tt (test (not (is_fresh x.condition)) verdict.Malformed _ tt
-    (test (is_none (lowest_unused s.processes FIRST_PROCESS)) (verdict.Refused error.ProcFull) verdict.Attach (λ r kind. refl) tt))
-body_harmless s x n (body.Sys num words) =
-    test (nat_le n x.last) verdict.Malformed _ tt (test (is_fresh x.condition) verdict.Malformed _ tt (test (is_other_count (wanted_words num) (length words)) verdict.Malformed _ tt
+sys_harmless : (x : Connection) (num : ℕ) (words : List ℕ) → Harmless (call_verdict x num words)
+sys_harmless x num words =
+    test (is_fresh x.condition) verdict.Malformed _ tt (test (is_other_count (wanted_words num) (length words)) verdict.Malformed _ tt
     (test (is_later_call num) verdict.Malformed _ tt (test (not (is_live x.condition)) (verdict.Refused error.InExec) _ (λ r kind. refl)
-    (test (nat_le OPEN_CALLS (len x.calls)) (verdict.Refused error.TryAgain) (verdict.Task (call_of num words)) (λ r kind. refl) tt)))))
-body_harmless s x n (body.GotBytes index err bytes) = call_harmless (get x.calls n) (body.GotBytes index err bytes)
-body_harmless s x n (body.GotText index err bytes) = call_harmless (get x.calls n) (body.GotText index err bytes)
-body_harmless s x n _ = tt
+    (test (nat_le OPEN_CALLS (len x.calls)) (verdict.Refused error.TryAgain) (verdict.Task (call_of num words)) (λ r kind. refl) tt))))
 
-harmless : (s : State) (x : Connection) (f : Frame) → Harmless (verdict_of s x f)
-harmless s x f = test (is_draining x.condition) verdict.Closed _ tt (body_harmless s x f.number.0 f.body)
+guest_harmless : (s : State) (x : Connection) → Harmless (guest_verdict s x)
+guest_harmless s x =
+    test (not (is_fresh x.condition)) verdict.Malformed _ tt
+    (test (is_none (lowest_unused s.processes FIRST_PROCESS)) (verdict.Refused error.ProcFull) verdict.Attach (λ r kind. refl) tt)
+
+takeover_harmless : (x : Connection) (cookie : Option Unused) (v : Verdict) → Harmless v → Harmless (takeover_verdict x cookie v)
+takeover_harmless x cookie v known = test (not (is_fresh x.condition)) verdict.Malformed _ tt (test (is_none cookie) (verdict.Refused error.BadCookie) v (λ r kind. refl) known)
+
+fork_harmless : (s : State) (jar : Jar) (x : Connection) → Harmless (fork_verdict s jar x)
+fork_harmless s jar x =
+    test (is_fresh x.condition) verdict.Malformed _ tt (test (not (is_live x.condition)) (verdict.Refused error.InExec) _ (λ r kind. refl)
+    (test (is_full jar) (verdict.Refused error.TryAgain) _ (λ r kind. refl)
+    (test (is_none (lowest_unused s.processes FIRST_PROCESS)) (verdict.Refused error.ProcFull) verdict.Fork (λ r kind. refl) tt)))
+
+ready_harmless : (jar : Jar) (x : Connection) → Harmless (ready_verdict jar x)
+ready_harmless jar x =
+    test (is_fresh x.condition) verdict.Malformed _ tt (test (not (is_live x.condition)) (verdict.Refused error.InExec) _ (λ r kind. refl)
+    (test (not (len x.calls == 0) || is_full jar) (verdict.Refused error.TryAgain) verdict.Ready (λ r kind. refl) tt))
+
+cancel_harmless : (x : Connection) (cookie : Option Unused) (v : Verdict) → Harmless v → Harmless (cancel_verdict x cookie v)
+cancel_harmless x cookie v known = test (is_fresh x.condition) verdict.Malformed _ tt (test (is_none cookie) (verdict.Refused error.BadCookie) v (λ r kind. refl) known)
+
+request_harmless : (x : Connection) (n : ℕ) (v : Verdict) → Harmless v → Harmless (request_verdict x n v)
+request_harmless x n v known = test (nat_le n x.last) verdict.Malformed v tt known
+
+body_harmless : (s : State) (jar : Jar) (c : ConnNo) (x : Connection) (n : ℕ) (b : Body) → Harmless (body_verdict s jar c x n b)
+body_harmless s jar c x n (body.Guest name) = request_harmless x n _ (guest_harmless s x)
+body_harmless s jar c x n (body.Join cookie name) = request_harmless x n _ (takeover_harmless x (redeemable jar cookie kind.Fork) (verdict.Join cookie) tt)
+body_harmless s jar c x n (body.Image cookie name) = request_harmless x n _ (takeover_harmless x (redeemable jar cookie kind.Exec) (verdict.Image cookie) tt)
+body_harmless s jar c x n (body.Sys num words) = request_harmless x n _ (sys_harmless x num words)
+body_harmless s jar c x n body.Prefork = request_harmless x n _ (fork_harmless s jar x)
+body_harmless s jar c x n (body.Cancel cookie) = request_harmless x n _ (cancel_harmless x (cancellable jar cookie c) (verdict.Cancel cookie) tt)
+body_harmless s jar c x n body.Preexec = request_harmless x n _ (ready_harmless jar x)
+body_harmless s jar c x n (body.GotBytes index err bytes) = call_harmless (get x.calls n) (body.GotBytes index err bytes)
+body_harmless s jar c x n (body.GotText index err bytes) = call_harmless (get x.calls n) (body.GotText index err bytes)
+body_harmless s jar c x n _ = tt
+
+harmless : (s : State) (jar : Jar) (c : ConnNo) (x : Connection) (f : Frame) → Harmless (verdict_of s jar c x f)
+harmless s jar c x f = test (is_draining x.condition) verdict.Closed _ tt (body_harmless s jar c x f.number.0 f.body)
 
 last_kept : (r : ReqNo) (kind : Option ℕ) → refusals (last_error r kind ∷ []) ≡ []
 last_kept r None = refl
@@ -123,7 +165,41 @@ last_kept r (Some kind) = refl
 
 attach_still : (m : Machine) (c : ConnNo) (x : Connection) (f : Frame) (next : Option Entry) → get m.connections c.0 ≡ Some x → IsStill m (attach m c x f next).1 c
 attach_still m c x f None here = still m c
-attach_still m c x f (Some e) here = queues m (m.journal ++ e ∷ []) c x _ here (adds_nothing x.queue (hello f.number e.outcome.ret0 ∷ []) refl)
+attach_still m c x f (Some e) here = queues_in m _ c x _ refl here (adds_nothing x.queue (hello f.number e.outcome.ret0 ∷ []) refl)
+
+join_still : (m : Machine) (c : ConnNo) (x : Connection) (f : Frame) (cookie : Cookie) (u : Option Unused) → get m.connections c.0 ≡ Some x → IsStill m (join m c x f cookie u).1 c
+join_still m c x f cookie None here = still m c
+join_still m c x f cookie (Some u) here = queues_in m _ c x _ refl here (adds_nothing x.queue (joined f.number u.pid ∷ []) refl)
+
+left_running : (m : Machine) (c : ConnNo) (x : Option Connection) → (left_at m c x).halted ≡ m.halted
+left_running m c None = refl
+left_running m c (Some x) = refl
+
+image_by_still : (m : Machine) (c : ConnNo) (x : Connection) (f : Frame) (cookie : Cookie) (u : Unused) (next : Option Entry) → get m.connections c.0 ≡ Some x → IsStill m (image_by m c x f cookie u next).1 c
+image_by_still m c x f cookie u None here = still m c
+image_by_still m c x f cookie u (Some e) here =
+    queues_in m _ c x _ (left_running _ u.maker (get m.connections u.maker.0)) here (adds_nothing x.queue (imaged f.number u.pid (length m.journal) ∷ []) refl)
+
+image_still : (m : Machine) (c : ConnNo) (x : Connection) (f : Frame) (cookie : Cookie) (u : Option Unused) → get m.connections c.0 ≡ Some x → IsStill m (image m c x f cookie u).1 c
+image_still m c x f cookie None here = still m c
+image_still m c x f cookie (Some u) here = image_by_still m c x f cookie u (next_entry m.journal u.pid (Request c f.number) op.Exec nothing_read) here
+
+fork_by_still : (m : Machine) (c : ConnNo) (x : Connection) (f : Frame) (salt : ℕ) (next : Option Entry) → get m.connections c.0 ≡ Some x → IsStill m (fork_by m c x f salt next).1 c
+fork_by_still m c x f salt None here = still m c
+fork_by_still m c x f salt (Some e) here =
+    queues_in m _ c x _ refl here (adds_nothing x.queue (forked f.number (next_cookie m.cookies salt) (length m.journal) (record { 0 = e.outcome.ret0 }) ∷ []) refl)
+
+fork_still : (m : Machine) (c : ConnNo) (x : Connection) (f : Frame) (salt : ℕ) (process : Option Pid) → get m.connections c.0 ≡ Some x → IsStill m (fork m c x f salt process).1 c
+fork_still m c x f salt None here = still m c
+fork_still m c x f salt (Some pid) here = fork_by_still m c x f salt (next_entry m.journal pid (Request c f.number) op.Fork nothing_read) here
+
+ready_still : (m : Machine) (c : ConnNo) (x : Connection) (f : Frame) (salt : ℕ) (process : Option Pid) → get m.connections c.0 ≡ Some x → IsStill m (ready m c x f salt process).1 c
+ready_still m c x f salt None here = still m c
+ready_still m c x f salt (Some pid) here = queues_in m _ c x _ refl here (adds_nothing x.queue (exec_ready f.number (next_cookie m.cookies salt) ∷ []) refl)
+
+cancel_still : (m : Machine) (c : ConnNo) (x : Connection) (f : Frame) (cookie : Cookie) (u : Option Unused) → get m.connections c.0 ≡ Some x → IsStill m (cancel m c x f cookie u).1 c
+cancel_still m c x f cookie None here = still m c
+cancel_still m c x f cookie (Some u) here = queues_in m _ c x _ refl here (adds_nothing x.queue (cancelled f.number ∷ []) refl)
 
 refuse_still : (m : Machine) (c : ConnNo) (x : Connection) (f : Frame) (why : SpError) (kind : Option ℕ) → get m.connections c.0 ≡ Some x → Harmless (verdict.Refused why) → IsStill m (refuse m c x f why kind).1 c
 refuse_still m c x f why None here known = still m c
@@ -133,26 +209,35 @@ go_on_still : (m : Machine) (c : ConnNo) (x : Connection) (f : Frame) (next : Op
 go_on_still m c x f next None here = still m c
 go_on_still m c x f next (Some task) here = queues m m.journal c x _ here refl
 
-verdict_still : (v : Verdict) (m : Machine) (c : ConnNo) (x : Connection) (f : Frame) → get m.connections c.0 ≡ Some x → Harmless v → IsStill m (frame_by v m c x f).1 c
-verdict_still verdict.Closed m c x f here known = still m c
-verdict_still verdict.Malformed m c x f here known =
-    queues m (exit_of m.journal c (process_in x.condition)) c x _ here (adds_nothing x.queue (last_error f.number (answered_kind f.body) ∷ []) (last_kept f.number (answered_kind f.body)))
-verdict_still (verdict.Refused why) m c x f here known = refuse_still m c x f why (answered_kind f.body) here known
-verdict_still verdict.Attach m c x f here known = attach_still m c x f (next_entry m.journal no_process (Request c f.number) Attach nothing_read) here
-verdict_still (verdict.Task call) m c x f here known = queues m m.journal c x _ here refl
-verdict_still verdict.Copy m c x f here known = go_on_still m c x f (λ task. with_copy task (bytes_in f.body)) (get x.calls f.number.0) here
-verdict_still (verdict.CopyFault why) m c x f here known = go_on_still m c x f (λ task. with_error task why) (get x.calls f.number.0) here
+-- a connection drains behind an error that refuses no call for memory
+drain_still : (m : Machine) (c : ConnNo) (x : Connection) (f : Frame) → get m.connections c.0 ≡ Some x → refusals (f ∷ []) ≡ [] → IsStill m (with_connection (gone m c x) c (draining x f)) c
+drain_still m c x f here kept = queues_in m (gone m c x) c x (draining x f) refl here (adds_nothing x.queue (f ∷ []) kept)
 
-frame_at_still : (m : Machine) (c : ConnNo) (f : Frame) (x : Option Connection) → get m.connections c.0 ≡ x → IsStill m (frame_at m c f x).1 c
-frame_at_still m c f None here = still m c
-frame_at_still m c f (Some x) here = verdict_still (verdict_of (state_after m.journal) x f) m c x f here (harmless (state_after m.journal) x f)
+verdict_still : (v : Verdict) (m : Machine) (c : ConnNo) (x : Connection) (f : Frame) (salt : ℕ) → get m.connections c.0 ≡ Some x → Harmless v → IsStill m (frame_by v m c x f salt).1 c
+verdict_still verdict.Closed m c x f salt here known = still m c
+verdict_still verdict.Malformed m c x f salt here known = drain_still m c x (last_error f.number (answered_kind f.body)) here (last_kept f.number (answered_kind f.body))
+verdict_still (verdict.Refused why) m c x f salt here known = refuse_still m c x f why (answered_kind f.body) here known
+verdict_still verdict.Attach m c x f salt here known = attach_still m c x f (next_entry m.journal no_process (Request c f.number) op.Attach nothing_read) here
+verdict_still (verdict.Join cookie) m c x f salt here known = join_still m c x f cookie (redeemable m.cookies cookie kind.Fork) here
+verdict_still (verdict.Image cookie) m c x f salt here known = image_still m c x f cookie (redeemable m.cookies cookie kind.Exec) here
+verdict_still verdict.Fork m c x f salt here known = fork_still m c x f salt (process_in x.condition) here
+verdict_still verdict.Ready m c x f salt here known = ready_still m c x f salt (process_in x.condition) here
+verdict_still (verdict.Cancel cookie) m c x f salt here known = cancel_still m c x f cookie (cancellable m.cookies cookie c) here
+verdict_still (verdict.Task call) m c x f salt here known = queues m m.journal c x _ here refl
+verdict_still verdict.Copy m c x f salt here known = go_on_still m c x f (λ task. with_copy task (bytes_in f.body)) (get x.calls f.number.0) here
+verdict_still (verdict.CopyFault why) m c x f salt here known = go_on_still m c x f (λ task. with_error task why) (get x.calls f.number.0) here
+
+frame_at_still : (m : Machine) (c : ConnNo) (f : Frame) (salt : ℕ) (x : Option Connection) → get m.connections c.0 ≡ x → IsStill m (frame_at m c f salt x).1 c
+frame_at_still m c f salt None here = still m c
+frame_at_still m c f salt (Some x) here =
+    verdict_still (verdict_of (state_after m.journal) m.cookies c x f) m c x f salt here (harmless (state_after m.journal) m.cookies c x f)
 
 by_halt : (m : Machine) (c : ConnNo) (p : Played) (halted : Bool) → IsStill m p.1 c → IsStill m (cond {A = Played} halted (reply.Closed, m) p).1 c
 by_halt m c p true is = still m c
 by_halt m c p false is = is
 
 frame_still : (m : Machine) (c : ConnNo) (f : Frame) (salt : ℕ) → IsStill m (after m (event.Frame c f salt)) c
-frame_still m c f salt = by_halt m c (played_running true m (event.Frame c f salt)) m.halted (frame_at_still m c f (get m.connections c.0) refl)
+frame_still m c f salt = by_halt m c (played_running true m (event.Frame c f salt)) m.halted (frame_at_still m c f salt (get m.connections c.0) refl)
 
 -- ---- work
 
@@ -285,16 +370,15 @@ IsBare m c = (m.halted ≡ false) × (queued_refusals m c ≡ [])
 close_bare : (m : Machine) (c : ConnNo) (x : Connection) → m.halted ≡ false → IsBare (close m c x).1 c
 close_bare m c x running = (running, ap (λ (o : Option Connection). refusals (queue_in o)) (get_gone m.connections c.0))
 
-bad_bare : (m : Machine) (c : ConnNo) (x : Connection) (f : Frame) (journal : List Entry) → get m.connections c.0 ≡ Some x → IsBare m c → refusals (f ∷ []) ≡ []
-    → IsBare (with_connection (record m { journal = journal }) c (draining x f)) c
-bad_bare m c x f journal here bare kept =
-    let is = queues m journal c x (draining x f) here (adds_nothing x.queue (f ∷ []) kept) in
+bad_bare : (m : Machine) (c : ConnNo) (x : Connection) (f : Frame) → get m.connections c.0 ≡ Some x → IsBare m c → refusals (f ∷ []) ≡ [] → IsBare (with_connection (gone m c x) c (draining x f)) c
+bad_bare m c x f here bare kept =
+    let is = drain_still m c x f here kept in
     (is.halted ∙ bare.0, is.told ∙ bare.1)
 
 live_bare : (m : Machine) (c : ConnNo) (x : Connection) (pid : _) (how : Finish) → get m.connections c.0 ≡ Some x → IsBare m c → IsBare (end_by m c x (condition.Live pid) how).1 c
 live_bare m c x pid finish.Clean here bare = close_bare m c x bare.0
 live_bare m c x pid finish.Inside here bare = close_bare m c x bare.0
-live_bare m c x pid (finish.Bad fault) here bare = bad_bare m c x (last_error (record { 0 = 0 }) None) (exit_of m.journal c (process_in x.condition)) here bare refl
+live_bare m c x pid (finish.Bad fault) here bare = bad_bare m c x (last_error (record { 0 = 0 }) None) here bare refl
 
 end_by_bare : (m : Machine) (c : ConnNo) (x : Connection) (s : Condition) (how : Finish) → get m.connections c.0 ≡ Some x → IsBare m c → IsBare (end_by m c x s how).1 c
 end_by_bare m c x condition.Fresh how here bare = close_bare m c x bare.0

@@ -6,6 +6,7 @@ use Rattle.std.proofs.lemmas.List.{append-nil}
 use Rattle.std.specs.Prelude.{◌==◌, not, IfSome}
 use Rattle.std.specs.FinMap.{get}
 use Rattle.sp_base.specs.declared.names.ConnNo.{ConnNo}
+use Rattle.sp_base.specs.declared.names.Cookie.{Cookie}
 use Rattle.sp_base.specs.declared.names.Pid.{Pid}
 use Rattle.sp_base.specs.declared.names.ReqNo.{ReqNo}
 use Rattle.sp_base.specs.declared.names.SpError.TheVariants as error
@@ -13,12 +14,18 @@ use Rattle.sp_frames.specs.declared.frame.Frame.{Frame}
 use Rattle.kern_model.specs.Journal.{IsNew, next_entry}
 use Rattle.kern_model.specs.declared.journal.Entry.{Entry}
 use Rattle.kern_model.specs.declared.journal.Who.{Who}
-use Rattle.kern_model.specs.declared.journal.Who.TheVariants.{Request, End}
-use Rattle.kern_model.specs.declared.operation.Op.TheVariants.{Attach, Exit}
-use Rattle.hub_model.specs.Ends.{nothing_read, with_entry, exit_of}
+use Rattle.kern_model.specs.declared.journal.Who.TheVariants.{Request, Cancelled, End}
+use Rattle.kern_model.specs.declared.operation.Op.TheVariants as op
+use Rattle.sp_fork.specs.Jar.{cancellable, made_by, redeemable}
+use Rattle.sp_fork.specs.declared.unused.CookieKind.{CookieKind}
+use Rattle.sp_fork.specs.declared.unused.CookieKind.TheVariants as kind
+use Rattle.sp_fork.specs.declared.unused.Unused.{Unused}
+use Rattle.hub_model.specs.Cookies.{Ledger, ledger_of, without_child, take_back, take_back_by, take_back_each, take_all_back}
+use Rattle.hub_model.specs.Ends.{gone}
 use Rattle.hub_model.specs.Frames.{answered_kind}
+use Rattle.hub_model.specs.Journal.{nothing_read, with_entry, exit_of}
 use Rattle.hub_model.specs.Machine.{played, played_running, Plays}
-use Rattle.hub_model.specs.Requests.{no_process, attach, refuse, go_on, bytes_in, with_copy, with_error, frame_by, frame_at}
+use Rattle.hub_model.specs.Requests.{no_process, attach, join, left_at, image_by, image, fork_by, fork, ready, cancel, refuse, go_on, bytes_in, with_copy, with_error, frame_by, frame_at}
 use Rattle.hub_model.specs.Sound.{is_waiting, HasDone, IsDone, IsSound}
 use Rattle.hub_model.specs.State.{Connection, Machine, Played, process_in}
 use Rattle.hub_model.specs.Verdict.{verdict_of}
@@ -78,11 +85,76 @@ one_entry journal (Some e) = (e ∷ [], refl)
 
 exit_grows : (journal : List Entry) (c : ConnNo) (process : Option Pid) → (more : List Entry) × (exit_of journal c process ≡ journal ++ more)
 exit_grows journal c None = ([], sym (append-nil journal))
-exit_grows journal c (Some pid) = one_entry journal (next_entry journal pid (End c) Exit nothing_read)
+exit_grows journal c (Some pid) = one_entry journal (next_entry journal pid (End c) op.Exit nothing_read)
+
+-- ---- cookies that are taken back
+
+-- the journal of a ledger is another one with entries behind it
+abbrev Adds : List Entry → Ledger → Type 0
+Adds journal l = (more : List Entry) × (l.journal ≡ journal ++ more)
+
+adds_then : (journal : List Entry) (l l' : Ledger) → Adds journal l → Adds l.journal l' → Adds journal l'
+adds_then journal l l' a b = (a.0 ++ b.0, b.1 ∙ ap (λ (j : List Entry). j ++ b.0) a.1 ∙ append_assoc journal a.0 b.0)
+
+child_grows : (journal : List Entry) (number : ℕ) (pid : Pid) (k : CookieKind) → (more : List Entry) × (without_child journal number pid k ≡ journal ++ more)
+child_grows journal number pid kind.Fork = one_entry journal (next_entry journal pid (Cancelled number) op.Exit nothing_read)
+child_grows journal number pid kind.Exec = ([], sym (append-nil journal))
+
+taken_adds : (l : Ledger) (c : ConnNo) (cookie : Cookie) (u : Option Unused) → Adds l.journal (take_back_by l c cookie u)
+taken_adds l c cookie None = ([], sym (append-nil l.journal))
+taken_adds l c cookie (Some u) = child_grows l.journal cookie.number u.pid u.kind
+
+each_adds : (cookies : List Cookie) (l : Ledger) (c : ConnNo) → Adds l.journal (take_back_each l c cookies)
+each_adds [] l c = ([], sym (append-nil l.journal))
+each_adds (cookie ∷ cookies) l c =
+    let first = take_back l c cookie in
+    adds_then l.journal first (take_back_each first c cookies) (taken_adds l c cookie (cancellable l.cookies cookie c)) (each_adds cookies first c)
+
+-- a connection that goes takes its cookies back, and its process exits
+gone_grows : (m : Machine) (c : ConnNo) (x : Connection) → Grows m (gone m c x)
+gone_grows m c x =
+    let back = take_all_back (ledger_of m) c in
+    let taken = each_adds (made_by m.cookies c) (ledger_of m) c in
+    let exits = exit_grows back.journal c (process_in x.condition) in
+    (taken.0 ++ exits.0, exits.1 ∙ ap (λ (j : List Entry). j ++ exits.0) taken.1 ∙ append_assoc m.journal taken.0 exits.0)
+
+-- ---- a frame
 
 attach_grows : (m : Machine) (c : ConnNo) (x : Connection) (f : Frame) (next : Option Entry) → Grows m (attach m c x f next).1
 attach_grows m c x f None = as_it_was m
 attach_grows m c x f (Some e) = (e ∷ [], refl)
+
+join_grows : (m : Machine) (c : ConnNo) (x : Connection) (f : Frame) (cookie : Cookie) (u : Option Unused) → Grows m (join m c x f cookie u).1
+join_grows m c x f cookie None = as_it_was m
+join_grows m c x f cookie (Some u) = as_it_was m
+
+left_journal : (m : Machine) (c : ConnNo) (x : Option Connection) → (left_at m c x).journal ≡ m.journal
+left_journal m c None = refl
+left_journal m c (Some x) = refl
+
+image_by_grows : (m : Machine) (c : ConnNo) (x : Connection) (f : Frame) (cookie : Cookie) (u : Unused) (next : Option Entry) → Grows m (image_by m c x f cookie u next).1
+image_by_grows m c x f cookie u None = as_it_was m
+image_by_grows m c x f cookie u (Some e) = (e ∷ [], left_journal _ u.maker (get m.connections u.maker.0))
+
+image_grows : (m : Machine) (c : ConnNo) (x : Connection) (f : Frame) (cookie : Cookie) (u : Option Unused) → Grows m (image m c x f cookie u).1
+image_grows m c x f cookie None = as_it_was m
+image_grows m c x f cookie (Some u) = image_by_grows m c x f cookie u (next_entry m.journal u.pid (Request c f.number) op.Exec nothing_read)
+
+fork_by_grows : (m : Machine) (c : ConnNo) (x : Connection) (f : Frame) (salt : ℕ) (next : Option Entry) → Grows m (fork_by m c x f salt next).1
+fork_by_grows m c x f salt None = as_it_was m
+fork_by_grows m c x f salt (Some e) = (e ∷ [], refl)
+
+fork_grows : (m : Machine) (c : ConnNo) (x : Connection) (f : Frame) (salt : ℕ) (process : Option Pid) → Grows m (fork m c x f salt process).1
+fork_grows m c x f salt None = as_it_was m
+fork_grows m c x f salt (Some pid) = fork_by_grows m c x f salt (next_entry m.journal pid (Request c f.number) op.Fork nothing_read)
+
+ready_grows : (m : Machine) (c : ConnNo) (x : Connection) (f : Frame) (salt : ℕ) (process : Option Pid) → Grows m (ready m c x f salt process).1
+ready_grows m c x f salt None = as_it_was m
+ready_grows m c x f salt (Some pid) = as_it_was m
+
+cancel_grows : (m : Machine) (c : ConnNo) (x : Connection) (f : Frame) (cookie : Cookie) (u : Option Unused) → Grows m (cancel m c x f cookie u).1
+cancel_grows m c x f cookie None = as_it_was m
+cancel_grows m c x f cookie (Some u) = child_grows m.journal cookie.number u.pid u.kind
 
 refuse_grows : (m : Machine) (c : ConnNo) (x : Connection) (f : Frame) (why : _) (kind : Option ℕ) → Grows m (refuse m c x f why kind).1
 refuse_grows m c x f why None = as_it_was m
@@ -92,22 +164,27 @@ go_on_grows : (m : Machine) (c : ConnNo) (x : Connection) (f : Frame) (next : Op
 go_on_grows m c x f next None = as_it_was m
 go_on_grows m c x f next (Some task) = as_it_was m
 
-verdict_grows : (v : Verdict) (m : Machine) (c : ConnNo) (x : Connection) (f : Frame) → Grows m (frame_by v m c x f).1
-verdict_grows verdict.Closed m c x f = as_it_was m
-verdict_grows verdict.Malformed m c x f = exit_grows m.journal c (process_in x.condition)
-verdict_grows (verdict.Refused why) m c x f = refuse_grows m c x f why (answered_kind f.body)
-verdict_grows verdict.Attach m c x f = attach_grows m c x f (next_entry m.journal no_process (Request c f.number) Attach nothing_read)
-verdict_grows (verdict.Task call) m c x f = as_it_was m
-verdict_grows verdict.Copy m c x f = go_on_grows m c x f (λ task. with_copy task (bytes_in f.body)) (get x.calls f.number.0)
-verdict_grows (verdict.CopyFault why) m c x f = go_on_grows m c x f (λ task. with_error task why) (get x.calls f.number.0)
+verdict_grows : (v : Verdict) (m : Machine) (c : ConnNo) (x : Connection) (f : Frame) (salt : ℕ) → Grows m (frame_by v m c x f salt).1
+verdict_grows verdict.Closed m c x f salt = as_it_was m
+verdict_grows verdict.Malformed m c x f salt = gone_grows m c x
+verdict_grows (verdict.Refused why) m c x f salt = refuse_grows m c x f why (answered_kind f.body)
+verdict_grows verdict.Attach m c x f salt = attach_grows m c x f (next_entry m.journal no_process (Request c f.number) op.Attach nothing_read)
+verdict_grows (verdict.Join cookie) m c x f salt = join_grows m c x f cookie (redeemable m.cookies cookie kind.Fork)
+verdict_grows (verdict.Image cookie) m c x f salt = image_grows m c x f cookie (redeemable m.cookies cookie kind.Exec)
+verdict_grows verdict.Fork m c x f salt = fork_grows m c x f salt (process_in x.condition)
+verdict_grows verdict.Ready m c x f salt = ready_grows m c x f salt (process_in x.condition)
+verdict_grows (verdict.Cancel cookie) m c x f salt = cancel_grows m c x f cookie (cancellable m.cookies cookie c)
+verdict_grows (verdict.Task call) m c x f salt = as_it_was m
+verdict_grows verdict.Copy m c x f salt = go_on_grows m c x f (λ task. with_copy task (bytes_in f.body)) (get x.calls f.number.0)
+verdict_grows (verdict.CopyFault why) m c x f salt = go_on_grows m c x f (λ task. with_error task why) (get x.calls f.number.0)
 
-frame_at_grows : (m : Machine) (c : ConnNo) (f : Frame) (x : Option Connection) → Grows m (frame_at m c f x).1
-frame_at_grows m c f None = as_it_was m
-frame_at_grows m c f (Some x) = verdict_grows (verdict_of (state_after m.journal) x f) m c x f
+frame_at_grows : (m : Machine) (c : ConnNo) (f : Frame) (salt : ℕ) (x : Option Connection) → Grows m (frame_at m c f salt x).1
+frame_at_grows m c f salt None = as_it_was m
+frame_at_grows m c f salt (Some x) = verdict_grows (verdict_of (state_after m.journal) m.cookies c x f) m c x f salt
 
 frame_by_halt : (m : Machine) (c : ConnNo) (f : Frame) (salt : ℕ) (halted : Bool) → Grows m (cond {A = Played} halted (reply.Closed, m) (played_running true m (event.Frame c f salt))).1
 frame_by_halt m c f salt true = as_it_was m
-frame_by_halt m c f salt false = frame_at_grows m c f (get m.connections c.0)
+frame_by_halt m c f salt false = frame_at_grows m c f salt (get m.connections c.0)
 
 pub frame_grows : (m : Machine) (c : ConnNo) (f : Frame) (salt : ℕ) → Grows m (after m (event.Frame c f salt))
 frame_grows m c f salt = frame_by_halt m c f salt m.halted

@@ -1,5 +1,5 @@
--- How far a session is: an aid of the contracts behind the public one. By now no salt is drawn.
-use Rattle.std.specs.Prelude.{◌≡◌, ◌≢◌, ◌⊎◌, ℕ, ◌≤◌, Bool, true, Option, Some, None, List, [], ◌∷◌, ◌++◌, length, take, Result, Ok, Err, IsErrOf, ⊤}
+-- How far a session is: an aid of the contracts behind the public one.
+use Rattle.std.specs.Prelude.{◌≡◌, ◌≢◌, ◌⊎◌, ℕ, ◌≤◌, Bool, true, Option, Some, None, List, [], ◌∷◌, ◌++◌, length, take, count_by, Result, Ok, Err, IsErrOf, ⊤}
 use Rattle.std.specs.List.{flat_map}
 use Rattle.std.specs.Io.KnownBytes.{Appends}
 use Rattle.sp_base.specs.declared.names.ConnNo.{ConnNo}
@@ -20,27 +20,31 @@ use Rattle.hub_model.specs.Sound.{IsSound}
 use Rattle.hub_model.specs.State.{Machine}
 use Rattle.sp_server.specs.declared.session.Session.{Session}
 use Rattle.sp_server.specs.declared.session.Stop.{Stop}
-use Rattle.sp_server.specs.declared.session.Stop.TheVariants.{Output}
 use Rattle.sp_server.specs.declared.session.Stop.TheVariants as stop
 use Rattle.sp_server.specs.declared.stdio.StdioEnd.{StdioEnd}
-use Rattle.sp_server.specs.declared.stdio.StdioEnd.TheVariants.{OutputFault, NoMemory}
+use Rattle.sp_server.specs.declared.stdio.StdioEnd.TheVariants.{OutputFault, SaltFault, NoMemory}
 use Rattle.sp_server.specs.Serving.{Server, server_of, worked, performs, AreOpen, AreRounds, HandsOut}
-use Rattle.sp_server.specs.Stdio.{connection, at_start, most_input, AnswersFrame, Answers, IsStdioOut, Serves}
+use Rattle.sp_server.specs.Stdio.{connection, at_start, most_input, takes_salt, AreSaltsOf, salt_for, AnswersFrame, Answers, IsStdioOut, IsUnsalted, Serves}
 
--- the count never fell, and a stop for the sink comes only where it rose
-pub record HasStopCause {T : Type 0} (before now : ℕ) (result : Result T Stop) : Type 0 where
+-- the count never fell, and this stop comes only where it rose
+pub record HasStopCause {T : Type 0} (why : Stop) (before now : ℕ) (result : Result T Stop) : Type 0 where
   pub later : before ≤ now
-  pub failed : IsErrOf result Output → Rose before now
+  pub failed : IsErrOf result why → Rose before now
 
 -- the end that a stop is
 abbrev pub end_of : Stop → StdioEnd
-end_of Output = OutputFault
+end_of stop.Output = OutputFault
+end_of stop.Salt = SaltFault
 end_of stop.NoMemory = NoMemory
 
 -- the end of a run that is stopped or not
 abbrev pub outcome : Result StdioEnd Stop → StdioEnd
 outcome (Ok end) = end
 outcome (Err stop) = end_of stop
+
+-- salts were drawn and a text was written, of which this holds
+abbrev pub Moves : Option (List ℕ) → Option (List ℕ) → Option (List ℕ) → Option (List ℕ) → (List ℕ → List ℕ → Type 0) → Type 0
+Moves drawn drawn' held held' holds = (salts : List ℕ) × (text : List ℕ) × Appends drawn drawn' salts × Appends held held' text × holds salts text
 
 -- ---- want of memory
 
@@ -65,33 +69,36 @@ AreAllRounds c s s' = (rounds : List (List ReqNo)) × AreRounds s c true rounds 
 
 -- ---- how far a session is
 
--- this is written for frames, whichever calls are refused later
-abbrev pub AnswersSoFar : List Frame → List ℕ → Machine → Type 0
-AnswersSoFar frames text m = Proceeds connection (λ s s'. Answers s frames [] text s') at_start m
+-- this is written for frames with these salts, whichever calls are refused later
+pub record AnswersSoFar (frames : List Frame) (salts text : List ℕ) (m : Machine) : Type 0 where
+  pub as_many : AreSaltsOf frames salts
+  pub answers : Proceeds connection (λ s s'. Answers s frames salts text s') at_start m
 
--- this is written for a frame, whichever calls are refused later
-abbrev pub AnswersOne : Machine → Frame → List ℕ → Machine → Type 0
-AnswersOne m f text m' = Proceeds connection (λ s s'. AnswersFrame s f 0 text s') m m'
+-- this is written for a frame with its salt, if it takes one, whichever calls are refused later
+pub record AnswersOne (m : Machine) (f : Frame) (salts text : List ℕ) (m' : Machine) : Type 0 where
+  pub as_many : AreSaltsOf (f ∷ []) salts
+  pub answers : Proceeds connection (λ s s'. AnswersFrame s f (salt_for f salts) text s') m m'
 
 -- some of the frames that the input gave are answered, and the others are ready
-pub record IsBehind (held : Held) (m : Machine) (input text : List ℕ) : Type 0 where
+pub record IsBehind (held : Held) (m : Machine) (input salts text : List ℕ) : Type 0 where
   pub handed : List Frame
   pub body : List ℕ
   pub follows : Follows input handed held
-  pub answers : AnswersSoFar handed body m
+  pub answers : AnswersSoFar handed salts body m
   pub begins : text ≡ banner ++ body
 
 -- the whole frames of the input are answered, and bytes are left behind them
-pub record IsAnsweredSoFar (input text rest : List ℕ) (m : Machine) : Type 0 where
+pub record IsAnsweredSoFar (input salts text rest : List ℕ) (m : Machine) : Type 0 where
   pub frames : List Frame
   pub body : List ℕ
   pub whole : IsWhole input frames rest
-  pub answers : AnswersSoFar frames body m
+  pub answers : AnswersSoFar frames salts body m
   pub begins : text ≡ banner ++ body
 
--- the session was fed this input and has written this text: all whole frames are answered, and behind them stands this fault or none
-pub record IsAt (s : Session) (fault : Option FrameFault) (input text : List ℕ) : Type 0 where
-  pub answered : IsAnsweredSoFar input text s.framer.rest s.hub
+-- the session was fed this input, has drawn these salts and has written this text: all whole frames are answered, and behind them stands
+-- this fault or none
+pub record IsAt (s : Session) (fault : Option FrameFault) (input salts text : List ℕ) : Type 0 where
+  pub answered : IsAnsweredSoFar input salts text s.framer.rest s.hub
   pub ready : s.framer.ready ≡ []
   pub stopped : s.framer.stop ≡ fault
   pub met : IsStop fault s.framer.rest
@@ -106,53 +113,70 @@ IsMet (Ok u) (Some fault) = ⊥
 IsMet (Err e) None = ⊥
 IsMet (Err e) (Some fault) = (e ≡ fault) × (e ≢ frame_fault.NoMemory)
 
+-- ---- where a session stops
+
 -- nothing, or first bytes of all that is queued, is written
 abbrev pub IsQueueFront : Machine → List ℕ → Type 0
 IsQueueFront m text = (text ≡ []) ⊎ (frames : List Frame) × (m' : Machine) × (count : ℕ) × HandsOut m connection frames m' × (text ≡ take count (flat_map spelling frames))
 
--- nothing, or first bytes of what is to be written for a frame, is written
-abbrev pub IsAnswerFront : Machine → Frame → List ℕ → Type 0
-IsAnswerFront m f text = (text ≡ []) ⊎ (whole : List ℕ) × (m' : Machine) × (count : ℕ) × AnswersOne m f whole m' × (text ≡ take count whole)
+-- a frame has its salt, if it takes one, and nothing, or first bytes of what is to be written for it, is written
+pub record IsAnswerFront (m : Machine) (f : Frame) (salts text : List ℕ) : Type 0 where
+  pub as_many : AreSaltsOf (f ∷ []) salts
+  pub front : (text ≡ []) ⊎ (whole : List ℕ) × (m' : Machine) × (count : ℕ) × AnswersOne m f salts whole m' × (text ≡ take count whole)
 
--- what is written for first frames of a front of the input
-pub record IsBegun (input text : List ℕ) : Type 0 where
+-- a frame isn't answered: the salt that it takes isn't drawn and nothing is written, or what is written is cut off
+abbrev pub StopsOne : Stop → Machine → Frame → List ℕ → List ℕ → Type 0
+StopsOne stop.Salt m f salts text = (takes_salt f.body ≡ true) × (salts ≡ []) × (text ≡ [])
+StopsOne _ m f salts text = IsAnswerFront m f salts text
+
+-- what is written for first frames of a front of the input; some salts of those behind them may be drawn
+pub record IsBegun (input salts text : List ℕ) : Type 0 where
   pub front : List ℕ
   pub more : List ℕ
   pub frames : List Frame
   pub later : List Frame
   pub rest : List ℕ
   pub body : List ℕ
+  pub used : List ℕ
+  pub unused : List ℕ
   pub refused : List ReqNo
   pub last : Machine
   pub is : input ≡ front ++ more
   pub whole : IsWhole front (frames ++ later) rest
-  pub answers : Answers (server_of at_start refused) frames [] body (server_of last [])
+  pub drawn : salts ≡ used ++ unused
+  pub as_many : AreSaltsOf frames used
+  pub few : length unused ≤ count_by (λ f. takes_salt f.body) later
+  pub answers : Answers (server_of at_start refused) frames used body (server_of last [])
   pub begins : text ≡ banner ++ body
 
 -- what is written for all of the input and its end
-pub record IsAllOf (input text : List ℕ) : Type 0 where
+pub record IsAllOf (input salts text : List ℕ) : Type 0 where
   pub how : Finish
   pub offset : ℕ
   pub refused : List ReqNo
-  pub out : IsStdioOut input [] refused how offset text
+  pub out : IsStdioOut input salts refused how offset text
 
 -- first bytes of what is written for first frames, or for all of the input and its end
-pub record IsPart (input text : List ℕ) : Type 0 where
+pub record IsPart (input salts text : List ℕ) : Type 0 where
   pub whole : List ℕ
   pub count : ℕ
-  pub written : IsBegun input whole ⊎ IsAllOf input whole
+  pub written : IsBegun input salts whole ⊎ IsAllOf input salts whole
   pub cut : text ≡ take count whole
 
+-- what is written where a session stops: all for the frames before the one whose salt failed, or a part of what is to be written
+abbrev pub IsStopText : Stop → List ℕ → List ℕ → List ℕ → Type 0
+IsStopText stop.Salt input salts text = (refused : List ReqNo) × IsUnsalted input salts refused text
+IsStopText _ input salts text = IsPart input salts text
+
 -- behind what was written before, first bytes of what is to be written for the input are written
-abbrev pub IsPartBehind : List ℕ → List ℕ → Option (List ℕ) → Option (List ℕ) → Type 0
-IsPartBehind input before held held' = (text : List ℕ) × Appends held held' text × IsPart input (before ++ text)
+abbrev pub IsPartBehind : List ℕ → List ℕ → List ℕ → Option (List ℕ) → Option (List ℕ) → Type 0
+IsPartBehind input salts before held held' = (text : List ℕ) × Appends held held' text × IsPart input salts (before ++ text)
 
 -- behind what was written before, all is written that this end of the input asks for
-abbrev pub IsOutBehind : List ℕ → Finish → ℕ → List ℕ → Option (List ℕ) → Option (List ℕ) → Type 0
-IsOutBehind input how offset before held held' =
-    (text : List ℕ) × Appends held held' text × (refused : List ReqNo) × IsStdioOut input [] refused how offset (before ++ text)
+abbrev pub IsOutBehind : List ℕ → List ℕ → Finish → ℕ → List ℕ → Option (List ℕ) → Option (List ℕ) → Type 0
+IsOutBehind input salts how offset before held held' =
+    (text : List ℕ) × Appends held held' text × (refused : List ReqNo) × IsStdioOut input salts refused how offset (before ++ text)
 
--- behind what was written before, all is written that this end asks for
-abbrev pub IsServedBehind : StdioEnd → List ℕ → List ℕ → Option (List ℕ) → Option (List ℕ) → Type 0
-IsServedBehind end input before held held' =
-    (text : List ℕ) × Appends held held' text × (refused : List ReqNo) × Serves end input [] refused (before ++ text)
+-- this is written for the input with these salts, where it ends like this
+abbrev pub IsServedBy : StdioEnd → List ℕ → List ℕ → List ℕ → Type 0
+IsServedBy end input salts text = (refused : List ReqNo) × Serves end input salts refused text

@@ -1,5 +1,5 @@
 -- What is written to standard output for what standard input gives.
-use Rattle.std.specs.Prelude.{◌≡◌, ◌≢◌, ℕ, ◌+◌, ◌^◌, ◌≤◌, ◌<◌, Bool, true, false, Option, List, [], ◌∷◌, ◌++◌, length, take, if◌then◌else◌}
+use Rattle.std.specs.Prelude.{◌≡◌, ◌≢◌, ℕ, ◌+◌, ◌^◌, ◌≤◌, ◌<◌, Bool, true, false, Option, List, [], ◌∷◌, ◌++◌, length, take, count_by, if◌then◌else◌}
 use Rattle.std.specs.List.{flat_map}
 use Rattle.std.specs.Io.KnownBytes.{Appends, Consumes}
 use Rattle.sp_io.specs.Whole.{IsAll}
@@ -10,7 +10,7 @@ use Rattle.sp_frames.specs.declared.frame.Body.{Body}
 use Rattle.sp_frames.specs.declared.frame.Body.TheVariants.{Prefork, Preexec}
 use Rattle.sp_frames.specs.declared.frame.Frame.{Frame}
 use Rattle.sp_frames.specs.Banner.{banner}
-use Rattle.sp_frames.specs.Grammar.{spelling}
+use Rattle.sp_frames.specs.Grammar.{spelling, Fits}
 use Rattle.sp_frames.specs.Stream.{IsWhole}
 use Rattle.sp_frames.specs.Faults.{HasFault, NoFault}
 use Rattle.sp_frames.specs.declared.version.Version.TheVariants.{Four}
@@ -43,6 +43,10 @@ takes_salt Prefork = true
 takes_salt Preexec = true
 takes_salt _ = false
 
+-- as many salts as frames that take one
+abbrev pub AreSaltsOf : List Frame → List ℕ → Type 0
+AreSaltsOf frames salts = length salts ≡ count_by (λ f. takes_salt f.body) frames
+
 -- the salt of a frame: the next one for a frame that takes one, and 0 for any other, or where none is left
 abbrev pub salt_for : Frame → List ℕ → ℕ
 salt_for f [] = 0
@@ -72,12 +76,13 @@ Answers s (f ∷ frames) salts text s' =
     (middle : Server) × (first : List ℕ) × (rest : List ℕ) × AnswersFrame s f (salt_for f salts) first middle
     × Answers middle frames (salts_behind f salts) rest s' × (text ≡ first ++ rest)
 
--- what is written for the whole frames of the input, behind the banner, where just these calls are refused for memory, in this order;
--- some bytes are left behind the frames
+-- what is written for the whole frames of the input, behind the banner, where those that take a salt get just these, and just these calls
+-- are refused for memory, each in this order; some bytes are left behind the frames
 pub record IsAnswered (input salts : List ℕ) (refused : List ReqNo) (text rest : List ℕ) (m : Machine) : Type 0 where
   pub frames : List Frame
   pub body : List ℕ
   pub whole : IsWhole input frames rest
+  pub as_many : AreSaltsOf frames salts
   pub answers : Answers (server_of at_start refused) frames salts body (server_of m [])
   pub begins : text ≡ banner ++ body
 
@@ -108,13 +113,29 @@ abbrev pub IsUnended : List ℕ → List ℕ → List ReqNo → List ℕ → Typ
 IsUnended input salts refused text = (rest : List ℕ) × (m : Machine) × IsAnswered input salts refused text rest m × NoFault rest
 
 -- first bytes of what is written for the input, ended as it ends
-pub record IsCutOff (input salts : List ℕ) (refused : List ReqNo) (text : List ℕ) : Type 0 where
+pub record IsFirstOf (input salts : List ℕ) (refused : List ReqNo) (text : List ℕ) : Type 0 where
   pub how : Finish
   pub offset : ℕ
   pub whole : List ℕ
   pub count : ℕ
   pub out : IsStdioOut input salts refused how offset whole
   pub cut : text ≡ take count whole
+
+-- first bytes of what is written for the input, whichever salts come behind these: as many as are lacking
+pub record IsCutOff (input salts : List ℕ) (refused : List ReqNo) (text : List ℕ) : Type 0 where
+  pub lacking : ℕ
+  pub first : (later : List ℕ) → length later ≡ lacking → IsFirstOf input (salts ++ later) refused text
+
+-- what is written for the whole frames that come before one that takes a salt
+pub record IsUnsalted (input salts : List ℕ) (refused : List ReqNo) (text : List ℕ) : Type 0 where
+  pub front : List ℕ
+  pub next : Frame
+  pub more : List ℕ
+  pub m : Machine
+  pub is : input ≡ front ++ (spelling next ++ more)
+  pub fits : Fits next
+  pub takes : takes_salt next.body ≡ true
+  pub answered : IsAnswered front salts refused text [] m
 
 -- ---- the calls that are refused
 
@@ -136,7 +157,7 @@ Serves (BadAt offset) taken salts refused text = (fault : FrameFault) × IsStdio
 Serves TooMuch taken salts refused text = (most_input < length taken) × IsUnended (take most_input taken) salts refused text
 Serves InputFault taken salts refused text = (length taken ≤ most_input) × IsUnended taken salts refused text
 Serves OutputFault taken salts refused text = IsCutOff (take most_input taken) salts refused text
-Serves SaltFault taken salts refused text = ⊥
+Serves SaltFault taken salts refused text = IsUnsalted (take most_input taken) salts refused text
 Serves NoMemory taken salts refused text = IsCutOff (take most_input taken) salts refused text
 
 -- the end of the input was met
@@ -152,8 +173,8 @@ pub record Told : Type 0 where
   pub held : Option (List ℕ)
   pub drawn : Option (List ℕ)
 
--- a run, by what is told before and after it: what was taken of the source, all of it where its end was met, what was written to the sink for it,
--- what was drawn of the salt: nothing, since by now no frame's answer needs one; and which calls were refused for memory
+-- a run, by what is told before and after it: what was taken of the source, all of it where its end was met, what was drawn of the salt and
+-- written to the sink for it, and which calls were refused for memory
 pub record IsServed (old new : Told) (end : StdioEnd) : Type 0 where
   pub taken : List ℕ
   pub salts : List ℕ
@@ -165,7 +186,6 @@ pub record IsServed (old new : Told) (end : StdioEnd) : Type 0 where
   pub salt : Appends old.drawn new.drawn salts
   pub serves : Serves end taken salts refused text
   pub all : is_read end ≡ true → IsAll old.left taken
-  pub none_drawn : salts ≡ []
 
 -- the bytes alone decide the end: it is none for a fault of the outside or for want of memory
 abbrev pub is_decided : StdioEnd → Bool

@@ -5,6 +5,8 @@ mod laws;
 mod serving;
 mod session;
 mod stdio;
+#[cfg(test)]
+mod tests;
 
 pub use laws::{later_bytes, one_end, one_run, refused_calls};
 pub use stdio::{StdioEnd, serve_stdio};

@@ -28,7 +28,7 @@ pub enum StdioEnd {
     InputFault,
     /// The sink failed.
     OutputFault,
-    /// The salt failed. By now no frame takes a salt, and this doesn't come.
+    /// The salt failed.
     SaltFault,
     /// Memory was refused.
     NoMemory,
@@ -42,23 +42,31 @@ impl From<Stop> for StdioEnd {
     fn from(stop: Stop) -> StdioEnd {
         match stop {
             Stop::Output => StdioEnd::OutputFault,
+            Stop::Salt => StdioEnd::SaltFault,
             Stop::NoMemory => StdioEnd::NoMemory,
         }
     }
 }
 
-/// Serves one connection, whose frames take no salt.
-fn serve<I: Source, O: Sink>(alloc: Global, source: &mut I, sink: &mut O) -> Result<StdioEnd, Stop>
+/// Serves one connection, and answers its end, or why it stopped.
+fn serve<I: Source, O: Sink, S: Salt>(
+    alloc: Global,
+    source: &mut I,
+    sink: &mut O,
+    salt: &mut S,
+) -> Result<StdioEnd, Stop>
     requires source { I.is_done source.old ≡ false }
     requires sink { O.is_done sink.old ≡ false }
-    ensures serves { (drawn : Option (List ℕ))
-        → IsServed (record { left = I.left source.old; passed = I.passed source.old; held = O.held sink.old; drawn = drawn })
-        (record { left = I.left source.new; passed = I.passed source.new; held = O.held sink.new; drawn = drawn }) (outcome result) }
+    ensures serves { IsServed
+        (record { left = I.left source.old; passed = I.passed source.old; held = O.held sink.old; drawn = S.drawn salt.old })
+        (record { left = I.left source.new; passed = I.passed source.new; held = O.held sink.new; drawn = S.drawn salt.new }) (outcome result) }
     ensures ended { is_read (outcome result) ≡ true → I.ended source.new ≡ true }
     ensures input { outcome result ≡ end.InputFault
         → Rose (I.faults source.old) (I.faults source.new) }
     ensures output { outcome result ≡ end.OutputFault
         → Rose (O.faults sink.old) (O.faults sink.new) }
+    ensures salt { outcome result ≡ end.SaltFault
+        → Rose (S.faults salt.old) (S.faults salt.new) }
     ensures source { I.is_done source.new ≡ false }
     ensures sink { O.is_done sink.new ≡ false }
 {
@@ -73,7 +81,7 @@ fn serve<I: Source, O: Sink>(alloc: Global, source: &mut I, sink: &mut O) -> Res
         if piece.is_empty() {
             return session.finish(sink);
         }
-        if let Some(end) = session.receive(piece.slice(), sink)? {
+        if let Some(end) = session.receive(piece.slice(), sink, salt)? {
             return Ok(end);
         }
     }
@@ -83,8 +91,9 @@ fn serve<I: Source, O: Sink>(alloc: Global, source: &mut I, sink: &mut O) -> Res
 ///
 /// What a frame is answered with is written before the source is read again. Of the input at most 1 GiB is looked at. The first
 /// cause in the order of the bytes decides: BadAt comes exactly where bytes are no frame, InsideAt where the input ends inside
-/// one, TooMuch where more than 1 GiB comes, Clean where the input ends between two frames; a fault of the source or the sink
-/// comes only where its count rose, and want of memory may come at any time. It returns for every input.
+/// one, TooMuch where more than 1 GiB comes, Clean where the input ends between two frames. A fault of the source, the sink or the
+/// salt comes only where its count rose, and want of memory may come at any time. A salt is drawn for each frame that makes a
+/// cookie, also for one that is refused. It returns for every input.
 pub fn serve_stdio<I: Source, O: Sink, S: Salt>(
     alloc: Global,
     source: &mut I,
@@ -101,14 +110,13 @@ pub fn serve_stdio<I: Source, O: Sink, S: Salt>(
     ensures ended { is_read result ≡ true → I.ended source.new ≡ true }
     ensures input { result ≡ end.InputFault → Rose (I.faults source.old) (I.faults source.new) }
     ensures output { result ≡ end.OutputFault → Rose (O.faults sink.old) (O.faults sink.new) }
+    ensures salt { result ≡ end.SaltFault → Rose (S.faults salt.old) (S.faults salt.new) }
 
     // what stays
-    ensures salt { salt.new ≡ salt.old }
     ensures source { I.is_done source.new ≡ false }
     ensures sink { O.is_done sink.new ≡ false }
 {
-    let _ = salt;
-    match serve(alloc, source, sink) {
+    match serve(alloc, source, sink, salt) {
         Ok(end) => end,
         Err(stop) => stop.into(),
     }

@@ -2,9 +2,9 @@
 ghost use Rattle.std.specs.Prelude.{◌≡◌, false, None, IfOk};
 
 use super::{Fails, NO_FAILS, Outcome, outcome_of, outcome_over};
-use crate::failure::{Failure, fail};
+use crate::top::rump_main;
 use sp_base::{NoMemory, Octets};
-use sp_io::{IoFault, MemSink, Source};
+use sp_io::{IoFault, MemSalt, MemSink, MemSource, Source};
 use std::alloc::Global;
 use std::test::Fail;
 
@@ -136,11 +136,28 @@ fn faults(rt: HostRuntime) -> Result<(), Fail> {
     Ok(())
 }
 
-/// By now no frame takes a salt, so its message is seen only by itself.
+/// A fork, as request 2.
+const FORK: &[u8] = b"\x18\0\0\0\0\0\0\0\x02\0\0\0\0\0\0\0\0\0\x05\0\0\0\0\0";
+
+/// The salt of a fork fails: what came before it is answered.
 #[test]
 fn no_salt(rt: HostRuntime) -> Result<(), Fail> {
+    let bytes = joined(rt.alloc(), &[HANDSHAKE, FORK])?;
+    let mut source = MemSource::of(rt.alloc(), bytes.slice(), &[])?;
+    let mut salt = MemSalt::of(rt.alloc(), 0, &[0])?;
+    let mut out = MemSink::of(rt.alloc(), &[])?;
     let mut err = MemSink::of(rt.alloc(), &[])?;
-    assert_eq!(rt; fail(&mut err, Failure::Salt), 71);
+    let status = rump_main(
+        rt.alloc(),
+        &["stdio"],
+        &mut salt,
+        &mut source,
+        &mut out,
+        &mut err,
+    );
+    let written = joined(rt.alloc(), &[BANNER, HELLO])?;
+    assert_eq!(rt; status, 71);
+    assert_eq!(rt; out.bytes(), written.slice());
     assert_eq!(rt; str::from_utf8(err.bytes())?, "rump_sp: no salt\n");
     Ok(())
 }

@@ -5,7 +5,8 @@ use Rattle.sp_server.specs.declared.session.Session.{Session}
 use Rattle.sp_server.specs.Serving.{after}
 use Rattle.sp_server.specs.Stdio.{connection}
 use Rattle.sp_server.proofs.Refusing.{opened_is}
-use Rattle.sp_server.proofs.SessionLaws.{at_begin, part_at_start, part_in_banner, always_err}
+use Rattle.sp_server.proofs.Moves.{always_err}
+use Rattle.sp_server.proofs.SessionLaws.{at_begin, part_at_start, part_in_banner}
 use Rattle.sp_server.proofs.session.Session.begin.Goals as goal
 
 pub returns-in_err-hub-clause-err : goal.returns-in_err-hub-clause-err
