@@ -49,7 +49,7 @@ use Rattle.link_model.specs.Route.{returns, rounds, route}
 use Rattle.link_model.specs.declared.moves.Move.{Move}
 use Rattle.link_model.specs.declared.moves.Move.TheVariants.{ToServer, ToClient, Work}
 use Rattle.link_model.proofs.Ends.{carried_on, route_ends}
-use Rattle.link_model.proofs.Law.{started, journal_grows, whole_again, closed_after}
+use Rattle.link_model.proofs.Law.{started, journal_grows, cookies_stay, whole_again, closed_after}
 use Rattle.guest_run.specs.Called.{IsAnsweredOver, IsAskedOver}
 use Rattle.guest_run.specs.Joined.{IsPlayed, link_of}
 use Rattle.guest_run.specs.Steps.{GoesOn, IsRefused}
@@ -304,6 +304,7 @@ ends a r old new reply' answer mem has collect got =
     subst (λ (l : Link). IsAnsweredOver a answer mem l) (sym is) (record {
       direct = answered.direct ∙ seen_is _ _ _ _ gives;
       performed = answered.performed;
+      cookies = cookies_stay a there;
       whole = whole_again a there answered;
       closed = closed_after a there answered;
     })

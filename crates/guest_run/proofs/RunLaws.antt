@@ -100,7 +100,7 @@ answered guest pid n old new line call mem answer row small proper now runs beco
         text = text;
       };
       grown = is.performed.grown;
-      rest = record { whole = again.0; process = again.1 ∙ rest.process; gave = gave };
+      rest = record { whole = again.0; process = again.1 ∙ rest.process; gave = gave; cookies = is.cookies ∙ rest.cookies };
     }
 
 -- a line whose call is refused is told as refused

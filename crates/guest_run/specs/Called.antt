@@ -16,10 +16,12 @@ pub record IsAskedOver (joined : Joined) (call : Call) (mem : List Part) (asked 
   pub makes : asked.call ≡ call
   pub lends : asked.mem ≡ mem
 
--- the call is answered as the kernel answers it at once, and has the one entry more; the link is whole again, and the request closed
+-- the call is answered as the kernel answers it at once, and has the one entry more; the server's cookies are as they were, the link
+-- is whole again, and the request closed
 pub record IsAnsweredOver (asked : Asked) (answer : Answer) (mem : List Part) (link : Link) : Type 0 where
   pub direct : direct_of asked ≡ Some (answer, mem)
   pub performed : IsPerformed asked link.server.journal
+  pub cookies : link.server.cookies ≡ asked.link.server.cookies
   pub whole : IsWholeAgain asked link
   pub closed : IsClosed asked link
 

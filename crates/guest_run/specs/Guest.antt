@@ -1,12 +1,13 @@
 -- A guest of a server of its own, between two of its calls.
 use Rattle.std.specs.Prelude.{◌≡◌, ℕ, [], ◌∷◌, Some}
 use Rattle.sp_base.specs.declared.names.Pid.{Pid}
+use Rattle.sp_fork.specs.Jar.{empty_jar}
 use Rattle.kern_model.specs.Journal.{next_entry}
 use Rattle.kern_model.specs.declared.journal.Entry.{Entry}
 use Rattle.kern_model.specs.declared.journal.Who.{Who}
 use Rattle.kern_model.specs.declared.journal.Who.TheVariants.{Request}
 use Rattle.kern_model.specs.declared.operation.Op.TheVariants.{Attach}
-use Rattle.hub_model.specs.Ends.{nothing_read}
+use Rattle.hub_model.specs.Journal.{nothing_read}
 use Rattle.hub_model.specs.Requests.{no_process}
 use Rattle.link_model.specs.Asked.{IsWhole}
 use Rattle.guest_run.specs.Joined.{link_of, the_connection}
@@ -20,11 +21,12 @@ request number = Request the_connection (record { 0 = number })
 abbrev pub process_of : Entry → Pid
 process_of attach = record { 0 = attach.outcome.ret0 }
 
--- the guest may call: its link is whole for its process, and the last number that it gave is this
+-- the guest may call: its link is whole for its process, the last number that it gave is this, and no cookie was made
 pub record IsAtRest (joined : Joined) (pid : Pid) (last : ℕ) : Type 0 where
   pub whole : IsWhole (link_of joined)
   pub process : whole.pid ≡ pid
   pub gave : joined.client.last ≡ last
+  pub cookies : joined.hub.cookies ≡ empty_jar
 
 -- the entry is the attach of the first guest of a fresh kernel, for its request 1
 abbrev pub IsAttach : Entry → Type 0

@@ -11,7 +11,7 @@ use Rattle.kern_model.specs.declared.journal.Entry.{Entry}
 use Rattle.kern_model.specs.declared.journal.Who.TheVariants.{End}
 use Rattle.kern_model.specs.declared.operation.Op.TheVariants.{Exit, Sys}
 use Rattle.kern_model.specs.declared.outcome.OutPiece.{OutPiece}
-use Rattle.hub_model.specs.Ends.{nothing_read}
+use Rattle.hub_model.specs.Journal.{nothing_read}
 use Rattle.link_model.specs.Direct.{direct, reads}
 use Rattle.guest_language.specs.Memory.{memory_of}
 use Rattle.guest_language.specs.declared.script.Line.{Line}

@@ -10,7 +10,6 @@ ghost use Rattle.guest_run.specs.UnderWay.{HasTold};
 use crate::calling::Called;
 use crate::joined::Joined;
 use crate::rows::{answered_row, refused_row};
-use client_model::Hello;
 use guest_language::{Line, Section, What};
 use sp_base::{NoMemory, Octets};
 use sp_hub::Hub;
@@ -98,7 +97,7 @@ pub fn run(alloc: Global, section: &Section) -> Result<Ran, NoMemory>
     ensures { IfOk result (IsRun section.now) }
 {
     let name = Octets::of(alloc, section.name.slice())?;
-    let mut joined = Joined::greeted(alloc, Hello::Guest(name))?;
+    let mut joined = Joined::greeted(alloc, name)?;
     let mut rows = Octets::none(alloc);
     let whole = tell_all(alloc, &mut joined, section, &mut rows)?;
     if whole {
