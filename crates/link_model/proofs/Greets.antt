@@ -185,6 +185,8 @@ greeted_by g (Some n) low room =
       next = next g.server c n low g.name;
       grown = refl;
       process = refl;
+      conn = refl;
+      opened = refl;
       cookies = refl;
       last = refl;
     })

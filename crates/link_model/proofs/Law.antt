@@ -21,7 +21,7 @@ use Rattle.client_model.specs.State.{Played}
 use Rattle.client_model.specs.declared.event.Reply.TheVariants as reply
 use Rattle.client_model.specs.declared.request.Ending.{Ending}
 use Rattle.client_model.specs.declared.request.Request.TheVariants as request
-use Rattle.link_model.specs.Asked.{Asked, IsPerformed, IsAnswered, IsFine, IsWholeAgain, IsClosed, Grows, number_of, start_of, after, journal_before, entry_of, direct_of, collected, after_collecting, idle}
+use Rattle.link_model.specs.Asked.{Asked, IsPerformed, IsAnswered, IsFine, IsWholeAgain, IsClosed, Grows, Stays, number_of, start_of, after, journal_before, entry_of, direct_of, collected, after_collecting, idle}
 use Rattle.link_model.specs.Direct.{reads, seen}
 use Rattle.link_model.specs.Link.{Link, made, carried}
 use Rattle.link_model.specs.declared.moves.Move.{Move}
@@ -128,6 +128,12 @@ moves_fine a moves move = let h = stands a moves in subst (λ (l : Link). IsFine
 -- the server's cookies stay
 pub cookies_stay : (a : Asked) (moves : List Move) → (after a moves).server.cookies ≡ a.link.server.cookies
 cookies_stay a moves = ap (λ (l : Link). l.server.cookies) (stands a moves).is
+
+-- the connection stays, and none is opened
+pub connection_stays : (a : Asked) (moves : List Move) → Stays a (after a moves)
+connection_stays a moves =
+    let is = (stands a moves).is in
+    record { conn = ap (λ (l : Link). l.conn) is; opened = ap (λ (l : Link). l.server.opened) is }
 
 -- the journal has the call's entry more exactly where the call is done
 pub journal_grows : (a : Asked) (moves : List Move) (move : Move)

@@ -104,6 +104,11 @@ pub record IsAnswered (asked : Asked) (link : Link) : Type 0 where
   pub performed : IsPerformed asked link.server.journal
   pub place : answer.place.0 ≡ length (journal_before asked)
 
+-- the connection is the same, and none was opened
+pub record Stays (asked : Asked) (link : Link) : Type 0 where
+  pub conn : link.conn ≡ asked.link.conn
+  pub opened : link.server.opened ≡ asked.link.server.opened
+
 -- the link is whole again, for the same process, where its client may start another call
 abbrev pub IsWholeAgain : Asked → Link → Type 0
 IsWholeAgain asked link = is_busy link.client ≡ false → (whole : IsWhole link) × (whole.pid ≡ asked.whole.pid)

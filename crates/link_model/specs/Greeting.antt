@@ -37,13 +37,15 @@ opened greeting = record {
   conn = greeting.conn;
 }
 
--- the link is whole, for the process that the greeting's one entry made, the server's cookies are as they were, and the client gave
--- the number 1
+-- the link is whole, for the process that the greeting's one entry made, its connection is the last one that opened, the server's
+-- cookies are as they were, and the client gave the number 1
 pub record IsGreeted (greeting : Greeting) (link : Link) : Type 0 where
   pub whole : IsWhole link
   pub entry : Entry
   pub next : next_entry greeting.server.journal no_process (Request greeting.conn (record { 0 = 1 })) Attach nothing_read ≡ Some entry
   pub grown : link.server.journal ≡ greeting.server.journal ++ entry ∷ []
   pub process : whole.pid.0 ≡ entry.outcome.ret0
+  pub conn : link.conn ≡ greeting.conn
+  pub opened : link.server.opened ≡ Some greeting.conn.0
   pub cookies : link.server.cookies ≡ greeting.server.cookies
   pub last : link.client.last ≡ 1

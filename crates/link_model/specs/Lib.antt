@@ -3,3 +3,4 @@ pub mod Link
 pub mod Asked
 pub mod Greeting
 pub mod Route
+pub mod Going

@@ -1,5 +1,5 @@
 -- A link between a client and a server, and the moves that are made on it.
-use Rattle.std.specs.Prelude.{true, List, [], ◌∷◌, Option, None, Some}
+use Rattle.std.specs.Prelude.{ℕ, true, List, [], ◌∷◌, Option, None, Some}
 use Rattle.sp_base.specs.declared.names.ConnNo.{ConnNo}
 use Rattle.hub_model.specs.Machine as server
 use Rattle.hub_model.specs.State.{Machine}
@@ -36,27 +36,39 @@ server_plays link p = record { link = record link { server = p.1 }; server = Som
 abbrev pub client_plays : Link → client_state.Played → Made
 client_plays link p = record { link = record link { client = p.1 }; server = None; client = Some p.0 }
 
--- what the client handed out comes to the server; nothing comes where it handed out no frame
-abbrev pub to_server : Link → ClientReply → Made
-to_server link (client_reply.Out f) = server_plays link (server.played true link.server (server_event.Frame link.conn f 0))
-to_server link _ = record { link = link; server = None; client = None }
+-- what the client handed out comes to the server, with a salt for the cookie that it makes; nothing comes where it handed out no frame
+abbrev pub to_server_with : Link → ℕ → ClientReply → Made
+to_server_with link salt (client_reply.Out f) = server_plays link (server.played true link.server (server_event.Frame link.conn f salt))
+to_server_with link salt _ = record { link = link; server = None; client = None }
 
 -- what the server handed out comes to the client; nothing comes where it handed out no frame
 abbrev pub to_client : Link → ServerReply → Made
 to_client link (server_reply.Out f) = client_plays link (client.played link.client (client_event.Frame f))
 to_client link _ = record { link = link; server = None; client = None }
 
--- the client hands out its oldest frame
-abbrev pub client_hands : Link → client_state.Played → Made
-client_hands link p = to_server (record link { client = p.1 }) p.0
+-- the client hands out its oldest frame, which comes to the server with a salt
+abbrev pub client_hands_with : Link → ℕ → client_state.Played → Made
+client_hands_with link salt p = to_server_with (record link { client = p.1 }) salt p.0
 
 -- the server hands out the oldest frame of the connection
 abbrev pub server_hands : Link → server_state.Played → Made
 server_hands link p = to_client (record link { server = p.1 }) p.0
 
+-- the client's oldest frame goes to the server, with a salt for the cookie that it makes
+abbrev pub sent : Link → ℕ → Made
+sent link salt = client_hands_with link salt (client.played link.client client_event.Take)
+
+-- what the client handed out comes to the server; a frame that makes no cookie uses no salt
+abbrev pub to_server : Link → ClientReply → Made
+to_server link answer = to_server_with link 0 answer
+
+-- the client hands out its oldest frame
+abbrev pub client_hands : Link → client_state.Played → Made
+client_hands link p = client_hands_with link 0 p
+
 -- a move is made
 abbrev pub made : Link → Move → Made
-made link ToServer = client_hands link (client.played link.client client_event.Take)
+made link ToServer = sent link 0
 made link ToClient = server_hands link (server.played true link.server (server_event.Take link.conn))
 made link (Work r) = server_plays link (server.played true link.server (server_event.Work link.conn r))
 

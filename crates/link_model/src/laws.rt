@@ -1,10 +1,13 @@
 //! The laws of a link: functions that do nothing, and whose contracts are the laws.
-ghost use Rattle.std.specs.Prelude.{[], ◌++◌, ◌∷◌, ◌≡◌, ◌⊎◌, IsSome, List, Some};
+ghost use Rattle.std.specs.Prelude.{[], ◌++◌, ◌∷◌, ◌≡◌, ◌⊎◌, IsSome, List, Some, length};
 ghost use Rattle.kern_model.specs.declared.journal.Entry.{Entry};
 ghost use Rattle.client_model.specs.declared.event.Reply.{Reply};
-ghost use Rattle.link_model.specs.Asked.{Asked, Grows, IsAnswered, IsClosed, IsFine, IsPerformed, IsWholeAgain};
+ghost use Rattle.link_model.specs.Asked.{Asked, Grows, IsAnswered, IsClosed, IsFine};
+ghost use Rattle.link_model.specs.Asked.{IsPerformed, IsWholeAgain, Stays};
 ghost use Rattle.link_model.specs.Asked.{after, after_collecting, collected, direct_of, entry_of};
 ghost use Rattle.link_model.specs.Asked.{journal_before, number_of, start_of};
+ghost use Rattle.link_model.specs.Going.{Going, HasGoneOn, asking, asking_number};
+ghost use Rattle.link_model.specs.Going.{collecting_cookie, collecting_process, cookie_of, gone_on};
 ghost use Rattle.link_model.specs.Greeting.{Greeting, IsGreeted, opened};
 ghost use Rattle.link_model.specs.Link.{carried, made};
 ghost use Rattle.link_model.specs.Route.{route};
@@ -25,10 +28,10 @@ pub fn greetings_make_links_whole()
 /// reads of that memory. Putting by frames is delivering (`puts`): the call isn't answered yet, or
 /// its caller sees what it would see at once, at the place of the entry. The journal grows as the
 /// server answers that the call is done, and else never (`grows`), and neither side refuses what
-/// comes to it (`fine`). None of the server's cookies is made or used (`cookies`). Where the kernel
-/// is ready for the call, it can be brought to its answer from wherever it is (`ends`), and has it
-/// at the end of its route (`arrives`). Once that is collected, the link is whole again (`whole`),
-/// and its request is closed (`closed`).
+/// comes to it (`fine`). None of the server's cookies is made or used (`cookies`), and no
+/// connection opens (`stays`). Where the kernel is ready for the call, it can be brought to its
+/// answer from wherever it is (`ends`), and has it at the end of its route (`arrives`). Once that
+/// is collected, the link is whole again (`whole`), and its request is closed (`closed`).
 pub fn calls_by_frames_are_direct()
     ensures starts { (asked : Asked) → (start_of asked).0 ≡ Reply.Started (number_of asked) }
     ensures asks { (asked : Asked) (moves : List Move)
@@ -45,6 +48,7 @@ pub fn calls_by_frames_are_direct()
         → IsFine (made (after asked moves) move) }
     ensures cookies { (asked : Asked) (moves : List Move)
         → (after asked moves).server.cookies ≡ asked.link.server.cookies }
+    ensures stays { (asked : Asked) (moves : List Move) → Stays asked (after asked moves) }
     ensures ends { (asked : Asked) (moves : List Move)
         → IsSome (direct_of asked)
         → (more : List Move) × IsAnswered asked (after asked (moves ++ more)) }
@@ -57,4 +61,20 @@ pub fn calls_by_frames_are_direct()
     ensures closed { (asked : Asked) (moves : List Move)
         → IsAnswered asked (after asked moves)
         → IsClosed asked (after_collecting asked (after asked moves)) }
+{}
+
+/// A process that goes on as its next program has a whole link over the new connection.
+///
+/// Its client asks for a cookie over the whole link (`starts`), and who collects it gets the one
+/// that the server makes with the salt (`readies`). The next program's client greets with it, and
+/// who collects the handshake gets the same process, and the place of its exec, which is the end of
+/// the journal before it (`images`). Once the connection that was left has ended, the link is
+/// whole, and nothing but the exec was performed (`goes_on`).
+pub fn next_programs_have_whole_links()
+    ensures starts { (going : Going) → (asking going).0 ≡ Reply.Started (asking_number going) }
+    ensures readies { (going : Going)
+        → (collecting_cookie going).0 ≡ Reply.ExecReady (cookie_of going) }
+    ensures images { (going : Going) → (collecting_process going).0
+        ≡ Reply.Joined going.whole.pid (Some (record { 0 = length going.link.server.journal })) }
+    ensures goes_on { (going : Going) → HasGoneOn going (gone_on going) }
 {}

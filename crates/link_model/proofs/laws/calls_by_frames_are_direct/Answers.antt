@@ -1,7 +1,7 @@
 use Rattle.std.proofs.Common.{ap}
 use Rattle.client_model.specs.State.{Played}
 use Rattle.link_model.proofs.Ends.{moves_end, route_ends}
-use Rattle.link_model.proofs.Law.{started, moves_fine, journal_grows, journal_stands, answer_stands, cookies_stay, whole_again, closed_after}
+use Rattle.link_model.proofs.Law.{started, moves_fine, journal_grows, journal_stands, answer_stands, connection_stays, cookies_stay, whole_again, closed_after}
 use Rattle.link_model.proofs.laws.calls_by_frames_are_direct.Goals as goal
 
 pub returns-clause-starts : goal.returns-clause-starts
@@ -18,6 +18,9 @@ returns-clause-asks c = journal_stands
 
 pub returns-clause-puts : goal.returns-clause-puts
 returns-clause-puts c = answer_stands
+
+pub returns-clause-stays : goal.returns-clause-stays
+returns-clause-stays c = connection_stays
 
 pub returns-clause-cookies : goal.returns-clause-cookies
 returns-clause-cookies c = cookies_stay
