@@ -49,7 +49,7 @@ use Rattle.link_model.specs.Route.{returns, rounds, route}
 use Rattle.link_model.specs.declared.moves.Move.{Move}
 use Rattle.link_model.specs.declared.moves.Move.TheVariants.{ToServer, ToClient, Work}
 use Rattle.link_model.proofs.Ends.{carried_on, route_ends}
-use Rattle.link_model.proofs.Law.{started, journal_grows, cookies_stay, whole_again, closed_after}
+use Rattle.link_model.proofs.Law.{started, journal_grows, connection_stays, cookies_stay, whole_again, closed_after}
 use Rattle.guest_run.specs.Called.{IsAnsweredOver, IsAskedOver}
 use Rattle.guest_run.specs.Joined.{IsPlayed, link_of}
 use Rattle.guest_run.specs.Steps.{GoesOn, IsRefused}
@@ -160,7 +160,8 @@ begun a call mem old new answer asked start =
     let q = p ∙ started a in (
       ap (λ (q : client.Played). q.0) q,
       ap (λ (q : client.Played). record (link_of new) { client = q.1 }) p
-          ∙ ap (λ (m : Machine). record (link_of old) { client = (start_of a).1; server = m }) start.server
+          ∙ ap (λ (m : Machine). record (link_of new) { client = (start_of a).1; server = m }) start.server
+          ∙ ap (λ (c : ConnNo). record (link_of old) { client = (start_of a).1; conn = c }) start.conn
           ∙ ap (λ (l : Link). record l { client = (start_of a).1 }) (sym asked.over),
     )
 
@@ -297,7 +298,8 @@ ends a r old new reply' answer mem has collect got =
     let there = route a has.entry in
     let is : link_of new ≡ after_collecting a (after a there) =
     ap (λ (p : client.Played). record (link_of new) { client = p.1 }) (collects a r old new reply' has collect)
-    ∙ ap (λ (m : Machine). record (link_of old) { client = (collecting a (after a there)).1; server = m }) collect.server
+    ∙ ap (λ (m : Machine). record (link_of new) { client = (collecting a (after a there)).1; server = m }) collect.server
+    ∙ ap (λ (c : ConnNo). record (link_of old) { client = (collecting a (after a there)).1; conn = c }) collect.conn
     ∙ ap (λ (l : Link). record l { client = (collecting a (after a there)).1 }) has.place in
     let answered = has.answered in
     let gives : reply.Got answered.answer answered.mem ≡ reply.Got answer mem = sym (gets a r old new reply' has collect) ∙ got in
@@ -305,6 +307,7 @@ ends a r old new reply' answer mem has collect got =
       direct = answered.direct ∙ seen_is _ _ _ _ gives;
       performed = answered.performed;
       cookies = cookies_stay a there;
+      stays = record { conn = (connection_stays a there).conn; opened = (connection_stays a there).opened };
       whole = whole_again a there answered;
       closed = closed_after a there answered;
     })

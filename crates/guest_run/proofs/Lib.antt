@@ -4,4 +4,6 @@ pub mod StepLaws
 pub mod CallLaws
 pub mod NameLaws
 pub mod GreetingLaws
+pub mod ExecLaws
 pub mod RunLaws
+pub mod KeptRows

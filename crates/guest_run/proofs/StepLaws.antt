@@ -33,7 +33,7 @@ use Rattle.link_model.specs.Route.{returns, rounds}
 use Rattle.link_model.specs.declared.moves.Move.{Move}
 use Rattle.link_model.specs.declared.moves.Move.TheVariants.{ToServer, ToClient, Work}
 use Rattle.link_model.proofs.Ends.{carried_on}
-use Rattle.guest_run.specs.Joined.{IsWorked, link_of, the_connection}
+use Rattle.guest_run.specs.Joined.{IsWorked, link_of}
 use Rattle.guest_run.specs.Steps.{GoesOn, IsRefused}
 use Rattle.guest_run.specs.declared.joined.Joined.{Joined}
 
@@ -94,15 +94,16 @@ works memory m c r = halted_works m.halted m _ _ (connection_works memory m c r 
 pub goes_on : (old new : Joined) (r : ReqNo) (answer : Reply) → IsWorked old r answer new → ((why : SpError) → answer ≢ reply.Refused why)
     → GoesOn true (link_of old) r (Work r ∷ []) (link_of new)
 goes_on old new r answer worked not =
-    let same = (works worked.memory old.hub the_connection r).same (λ why e. not why (ap (λ (p : Played). p.0) worked.server ∙ e)) in
-    let p : (answer, new.hub) ≡ played true old.hub (event.Work the_connection r) = worked.server ∙ same in
-    ap (λ k. record (link_of new) { client = k }) worked.client ∙ ap (λ (q : Played). record (link_of old) { server = q.1 }) p
+    let same = (works worked.memory old.hub old.conn r).same (λ why e. not why (ap (λ (p : Played). p.0) worked.server ∙ e)) in
+    let p : (answer, new.hub) ≡ played true old.hub (event.Work old.conn r) = worked.server ∙ same in
+    ap (λ (c : ConnNo). record (link_of new) { conn = c }) worked.conn
+    ∙ ap (λ k. record (link_of new) { client = k; conn = old.conn }) worked.client ∙ ap (λ (q : Played). record (link_of old) { server = q.1 }) p
 
 -- what is refused stays
 pub stays : (old new : Joined) (r : ReqNo) (why : SpError) (answer : Reply) → IsWorked old r answer new → answer ≡ reply.Refused why
     → GoesOn false (link_of old) r (Work r ∷ []) (link_of new)
 stays old new r why answer worked refused =
-    let wants = (works worked.memory old.hub the_connection r).refuses why (sym (ap (λ (p : Played). p.0) worked.server) ∙ refused) in
+    let wants = (works worked.memory old.hub old.conn r).refuses why (sym (ap (λ (p : Played). p.0) worked.server) ∙ refused) in
     record {
       moves = [];
       same = ap (λ (p : Played). p.1.journal) worked.server ∙ wants.0;

@@ -3,7 +3,7 @@ use Rattle.std.specs.Prelude.{◌≡◌, List, Some}
 use Rattle.sp_base.specs.declared.call.Call.{Call}
 use Rattle.sp_base.specs.declared.names.Answer.{Answer}
 use Rattle.sp_copy.specs.declared.part.Part.{Part}
-use Rattle.link_model.specs.Asked.{Asked, IsClosed, IsPerformed, IsWholeAgain, direct_of, journal_before}
+use Rattle.link_model.specs.Asked.{Asked, IsClosed, IsPerformed, IsWholeAgain, Stays, direct_of, journal_before}
 use Rattle.link_model.specs.Link.{Link}
 use Rattle.guest_run.specs.Joined.{link_of}
 use Rattle.guest_run.specs.declared.calling.Called.{Called}
@@ -16,12 +16,13 @@ pub record IsAskedOver (joined : Joined) (call : Call) (mem : List Part) (asked 
   pub makes : asked.call ≡ call
   pub lends : asked.mem ≡ mem
 
--- the call is answered as the kernel answers it at once, and has the one entry more; the server's cookies are as they were, the link
--- is whole again, and the request closed
+-- the call is answered as the kernel answers it at once, and has the one entry more; the server's cookies are as they were, and no
+-- connection opened; the link is whole again, and the request closed
 pub record IsAnsweredOver (asked : Asked) (answer : Answer) (mem : List Part) (link : Link) : Type 0 where
   pub direct : direct_of asked ≡ Some (answer, mem)
   pub performed : IsPerformed asked link.server.journal
   pub cookies : link.server.cookies ≡ asked.link.server.cookies
+  pub stays : Stays asked link
   pub whole : IsWholeAgain asked link
   pub closed : IsClosed asked link
 

@@ -6,3 +6,4 @@ pub mod Guest
 pub mod Outside
 pub mod Run
 pub mod UnderWay
+pub mod Laws

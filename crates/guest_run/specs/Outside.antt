@@ -1,5 +1,5 @@
 -- The lines of a script that don't run yet.
-use Rattle.std.specs.Prelude.{◌&&◌, ℕ, Bool, List, [], ◌∷◌, Option, None, Some, false, if◌then◌else◌, not}
+use Rattle.std.specs.Prelude.{◌&&◌, ℕ, Bool, List, [], ◌∷◌, Option, None, Some, false, true, if◌then◌else◌, not}
 use Rattle.sp_base.specs.Call.{call_number}
 use Rattle.hub_model.specs.Verdict.{is_later_call}
 use Rattle.guest_language.specs.declared.script.Line.{Line}
@@ -7,14 +7,14 @@ use Rattle.guest_language.specs.declared.script.Section.{Section}
 use Rattle.guest_language.specs.declared.script.What.{What}
 use Rattle.guest_language.specs.declared.script.What.TheVariants.{Exec, Fork, Join, Run}
 
--- a system call that the server takes by now
+-- a system call that the server takes by now, or an exec
 abbrev pub is_taken : What → Bool
 is_taken (Run call) = not (is_later_call (call_number call))
 is_taken (Fork child) = false
-is_taken Exec = false
+is_taken Exec = true
 is_taken Join = false
 
--- a line runs by now: its guest waits for it, and it is a call that the server takes
+-- a line runs by now: its guest waits for it, and it is a call that the server takes, or an exec
 abbrev pub is_inside : Line → Bool
 is_inside line = not line.background && is_taken line.what
 

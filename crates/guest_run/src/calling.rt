@@ -38,7 +38,7 @@ impl Joined {
         let ClientReply::Started(number) = self.start(call, mem)? else {
             unreachable!();
         };
-        self.to_server()?;
+        self.to_server(0)?;
         if !self.gather(number, needs)? {
             return Ok(Called::Refused);
         }

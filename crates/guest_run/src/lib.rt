@@ -4,6 +4,7 @@
 mod calling;
 mod greeting;
 mod joined;
+mod laws;
 mod outside;
 mod rows;
 mod running;
@@ -14,5 +15,6 @@ mod wire;
 
 pub use calling::Called;
 pub use joined::Joined;
+pub use laws::execs_keep_clear_rows;
 pub use outside::outside_line;
-pub use running::{Ran, run};
+pub use running::{Ran, RunEnd, run};

@@ -4,13 +4,14 @@ ghost use Rattle.guest_run.specs.Outside.{first_outside, is_inside, is_taken, ou
 
 use guest_language::{Line, Section, What};
 
-/// Whether a line's call is one that the server takes by now.
+/// Whether a line is a call that the server takes by now, or an exec.
 fn is_taken(what: &What) -> bool
     ensures { result ≡ is_taken what.now }
 {
     match what {
         What::Run(call) => !(21..=33).contains(&call.num()),
-        What::Fork(_) | What::Exec | What::Join => false,
+        What::Exec => true,
+        What::Fork(_) | What::Join => false,
     }
 }
 
@@ -35,8 +36,9 @@ fn first_outside(lines: &[Line]) -> Option<u32>
 
 /// The number, in the script's text, of the first line that doesn't run yet; none where all run.
 ///
-/// Of a first guest run the system calls 1 to 20 and unknown ones, each waited for. The calls of
-/// pipes, sockets and poll, lines in the background, fork, exec and join, and a second guest don't.
+/// Of a first guest run the system calls 1 to 20 and unknown ones, each waited for, and execs. The
+/// calls of pipes, sockets and poll, lines in the background, fork and join, and a second guest
+/// don't.
 pub fn outside_line(sections: &[Section]) -> Option<u32>
     ensures { result ≡ outside_line sections.now }
 {

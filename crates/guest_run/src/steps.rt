@@ -37,7 +37,7 @@ impl Joined {
                 return Ok(false);
             }
             self.to_client()?;
-            self.to_server()?;
+            self.to_server(0)?;
         }
         Ok(true)
     }

@@ -1,12 +1,15 @@
 // A conversation of files between the two cores as bytes, where every stream is cut at every place.
 ghost use Rattle.sp_frames.specs.Grammar.{Fits};
 
+use crate::{outside_line, run};
 use client_model::{Hello, Reply as ClientReply};
+use guest_language::{Script, sections_are_sound};
 use sp_base::{Answer, Call, ConnNo, Items, Octets, Place, ReqNo, Words};
 use sp_client::ClientCore;
 use sp_copy::{Mem, Part, Right};
 use sp_frames::{Frame, Framer, encode};
 use sp_hub::{Hub, Reply as ServerReply};
+use sp_io::MemSalt;
 use std::alloc::Global;
 use std::process::Abort;
 use std::test::Fail;
@@ -261,5 +264,33 @@ fn a_conversation_cut_at_every_place(rt: HostRuntime) -> Result<(), Fail> {
     for cut in 0..=LONGEST {
         converse(&rt, alloc, cut)?;
     }
+    Ok(())
+}
+
+/// The words of the lines of a guest with two execs, and the descriptor that each leaves.
+const TWO_EXECS: &[u8] =
+    b"guest a\nopen \"/f\" O_RDWR|O_CREAT\nexec\nfcntl 0 setfd 1\nexec\nclose 0\n";
+
+/// Each exec goes on over the next connection, and a marked descriptor is closed by it.
+#[test]
+fn two_execs(rt: HostRuntime) -> Result<(), Fail> {
+    let alloc = rt.alloc();
+    let mut salt = MemSalt::of(alloc, 7, &[])?;
+    let script = Script::read(alloc, TWO_EXECS)?;
+    sections_are_sound();
+    let [section] = script.sections() else {
+        return Err(Fail::from("one guest is read"));
+    };
+    if outside_line(script.sections()).is_some() {
+        return Err(Fail::from("all lines run"));
+    }
+    let ran = run(alloc, section, &mut salt)?;
+    let rows = str::from_utf8(ran.rows.slice())?;
+    assert_eq!(rt;
+        rows,
+        "a.1 rump 1 open \"/f\" O_RDWR|O_CREAT = 0\na.2 rump 2 exec = 0\n\
+a.3 rump 3 fcntl 0 setfd 1 = 0\na.4 rump 4 exec = 0\na.5 rump 5 close 0 = -1 EBADF\n"
+    );
+    assert_eq!(rt; ran.hub.journal().len(), 7);
     Ok(())
 }

@@ -11,6 +11,8 @@ use Rattle.guest_language.specs.Script.{script_of}
 use Rattle.guest_rows.specs.declared.row.SideName.TheVariants.{Host, Rump}
 use Rattle.guest_journal.specs.Entries.{journal_text}
 use Rattle.guest_run.specs.declared.running.Ran.{Ran}
+use Rattle.guest_run.specs.declared.running.RunEnd.{RunEnd}
+use Rattle.guest_run.specs.declared.running.RunEnd.TheVariants.{Whole}
 use Rattle.guest_run.specs.Outside.{outside_line}
 use Rattle.guest_run.specs.Run.{IsRun}
 use Rattle.rump_sp.specs.declared.failure.Failure.{Failure}
@@ -42,6 +44,11 @@ abbrev pub journals_text : Bool → List Entry → List ℕ
 journals_text false journal = []
 journals_text true journal = journal_text Rump journal ++ journal_text Host []
 
+-- a run went to its end
+abbrev pub is_whole : RunEnd → Bool
+is_whole Whole = true
+is_whole _ = false
+
 -- the text is the rows of a run of the section, with a legal journal that has one entry for each key; behind the rows of a whole run come the
 -- journals, where they are asked for
 pub record ShowsRun (section : Section) (journals : Bool) (done : Bool) (text : List ℕ) : Type 0 where
@@ -49,8 +56,8 @@ pub record ShowsRun (section : Section) (journals : Bool) (done : Bool) (text : 
   pub run : IsRun section ran
   pub legal : IsLegal ran.hub.journal
   pub keys : HasOwnKeys ran.hub.journal
-  pub whole : done ≡ ran.whole
-  pub shown : text ≡ ran.rows ++ journals_text (journals && ran.whole) ran.hub.journal
+  pub whole : done ≡ is_whole ran.end
+  pub shown : text ≡ ran.rows ++ journals_text (journals && is_whole ran.end) ran.hub.journal
 
 -- what a script's sections show: without a section the journals alone, which have no entry, and of the one that there is what a run shows
 abbrev pub ShowsSections : List Section → Bool → Bool → List ℕ → Type 0

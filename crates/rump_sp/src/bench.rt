@@ -9,7 +9,8 @@ ghost use Rattle.rump_sp.specs.Top.{Prints, PrintsFront, TellsFault};
 use crate::failure::{Failure, fail};
 use crate::shown::show;
 use guest_language::{ScriptFault, ScriptKind};
-use sp_io::{Failed, Sink, Source, TakeFault, put_all, take_all};
+use guest_run::RunEnd;
+use sp_io::{Failed, Salt, Sink, Source, TakeFault, put_all, take_all};
 use std::alloc::Global;
 
 /// The most bytes of a script that are read: 16 MiB.
@@ -25,12 +26,14 @@ const TOO_LONG: Failure = Failure::Script(ScriptFault {
 /// the journals of the kernels where they are asked for; gives the exit status.
 ///
 /// Where the server refuses a call for want of memory, the rows up to that call's are written and
-/// no journals, and the status is that of want of memory. What keeps it from its end is told in one
-/// line on `err`, whose own faults are passed over. The first cause decides, and nothing is written
-/// before the input was read to its end and the run is over.
-pub fn bench_main<I: Source, O: Sink, E: Sink>(
+/// no journals, and the status is that of want of memory. A salt is drawn for each exec; where none
+/// can be, the rows before it are written and no journals, and the status says so. What keeps it
+/// from its end is told in one line on `err`, whose own faults are passed over. The first cause
+/// decides, and nothing is written before the input was read to its end and the run is over.
+pub fn bench_main<S: Salt, I: Source, O: Sink, E: Sink>(
     alloc: Global,
     journals: bool,
+    salt: &mut S,
     input: &mut I,
     out: &mut O,
     err: &mut E,
@@ -42,7 +45,7 @@ pub fn bench_main<I: Source, O: Sink, E: Sink>(
     // Which status comes, when, and what is told. Want of memory is the one free cause.
     ensures status { Contains statuses result }
     ensures usage { result ≢ 64 }
-    ensures no_salt { result ≢ 71 }
+    ensures no_salt { result ≡ 71 → Rose (S.faults salt.old) (S.faults salt.new) }
     ensures script { result ≡ 65
         → TellsFault (I.left input.old)
         (Tells (E.faults err.old) (E.faults err.new) (E.held err.old) (E.held err.new)) }
@@ -72,13 +75,16 @@ pub fn bench_main<I: Source, O: Sink, E: Sink>(
         Err(TakeFault::NoMemory) => return fail(err, Failure::NoMemory),
         Err(TakeFault::TooLong) => return fail(err, TOO_LONG),
     };
-    let shown = match show(alloc, text.slice(), journals) {
+    let shown = match show(alloc, text.slice(), journals, salt) {
         Ok(shown) => shown,
         Err(failure) => return fail(err, failure),
     };
     match put_all(out, shown.text.slice()) {
         Err(Failed) => fail(err, Failure::Output),
-        Ok(()) if shown.whole => 0,
-        Ok(()) => fail(err, Failure::NoMemory),
+        Ok(()) => match shown.end {
+            RunEnd::Whole => 0,
+            RunEnd::Refused => fail(err, Failure::NoMemory),
+            RunEnd::NoSalt => fail(err, Failure::Salt),
+        },
     }
 }

@@ -2,15 +2,18 @@
 ghost use Rattle.std.specs.Prelude.{◌≡◌, None, IfErr, IfOk};
 ghost use Rattle.guest_language.specs.Facts.{IsSoundSection};
 ghost use Rattle.guest_run.specs.Outside.{first_outside};
-ghost use Rattle.rump_sp.specs.Top.{IsScriptFailure, Shows, ShowsRun, failure_of, journals_text};
+ghost use Rattle.guest_run.specs.Run.{HasSaltCause};
+ghost use Rattle.rump_sp.specs.Top.{IsScriptFailure, Shows, ShowsRun, failure_of, is_whole};
+ghost use Rattle.rump_sp.specs.Top.{journals_text};
 
 use crate::failure::Failure;
 use guest_journal::journal_text;
 use guest_language::{Script, ScriptFault, ScriptKind, Section, sections_are_sound};
 use guest_rows::SideName;
-use guest_run::{Ran, outside_line, run};
+use guest_run::{Ran, RunEnd, outside_line, run};
 use kern_model::Entry;
 use sp_base::{NoMemory, Octets};
+use sp_io::Salt;
 use std::alloc::Global;
 
 /// What a script shows.
@@ -18,9 +21,9 @@ use std::alloc::Global;
 pub struct Shown {
     /// The rows, and behind them the journals where they are asked for.
     pub text: Octets,
-    /// Whether the run went to its end. Else the server refused a call for want of memory: the rows
-    /// end with that call's, and no journals follow.
-    pub whole: bool,
+    /// How the run ended. Where the server refused a call for want of memory, the rows end with that
+    /// call's; where no salt was drawn for an exec, with those before it. No journals follow then.
+    pub end: RunEnd,
 }
 
 /// The failure that a script's fault is.
@@ -46,24 +49,48 @@ fn journals_text(alloc: Global, asked: bool, journal: &[Entry]) -> Result<Octets
     Ok(text)
 }
 
-/// What a run of a section shows. The only error is want of memory.
-fn show_run(alloc: Global, section: &Section, journals: bool) -> Result<Shown, NoMemory>
-    requires sound { IsSoundSection section.now }
-    requires inside { first_outside section.now.lines ≡ None }
-    ensures { IfOk result (λ shown. ShowsRun section.now journals shown.whole shown.text) }
+/// Whether a run went to its end.
+fn is_whole(end: RunEnd) -> bool
+    ensures { result ≡ is_whole end }
 {
-    let Ran { rows, whole, hub } = run(alloc, section)?;
-    let journals = journals_text(alloc, journals && whole, hub.journal())?;
-    let mut text = rows;
-    text.extend(journals.slice())?;
-    Ok(Shown { text, whole })
+    matches!(end, RunEnd::Whole)
 }
 
-/// What the script that a text is shows, with its journals or without.
+/// What a run of a section shows. The only error is want of memory.
+fn show_run<S: Salt>(
+    alloc: Global,
+    section: &Section,
+    journals: bool,
+    salt: &mut S,
+) -> Result<Shown, NoMemory>
+    requires sound { IsSoundSection section.now }
+    requires inside { first_outside section.now.lines ≡ None }
+    ensures shows { IfOk result (λ shown.
+        ShowsRun section.now journals (is_whole shown.end) shown.text) }
+    ensures salt { IfOk result (λ shown.
+        HasSaltCause (S.faults salt.old) (S.faults salt.new) shown.end) }
+{
+    let Ran { rows, end, hub } = run(alloc, section, salt)?;
+    let journals = journals_text(alloc, journals && is_whole(end), hub.journal())?;
+    let mut text = rows;
+    text.extend(journals.slice())?;
+    Ok(Shown { text, end })
+}
+
+/// What the script that a text is shows, with its journals or without. A salt is drawn for each
+/// exec that runs.
 ///
 /// An error is the text's first fault, a line that doesn't run yet among them, or want of memory.
-pub fn show(alloc: Global, text: &[u8], journals: bool) -> Result<Shown, Failure>
-    ensures shows { IfOk result (λ shown. Shows text.now journals shown.whole shown.text) }
+pub fn show<S: Salt>(
+    alloc: Global,
+    text: &[u8],
+    journals: bool,
+    salt: &mut S,
+) -> Result<Shown, Failure>
+    ensures shows { IfOk result (λ shown.
+        Shows text.now journals (is_whole shown.end) shown.text) }
+    ensures salt { IfOk result (λ shown.
+        HasSaltCause (S.faults salt.old) (S.faults salt.new) shown.end) }
     ensures fault { IfErr result (IsScriptFailure text.now) }
 {
     let script = match Script::read(alloc, text) {
@@ -77,9 +104,9 @@ pub fn show(alloc: Global, text: &[u8], journals: bool) -> Result<Shown, Failure
     match script.sections() {
         [] => Ok(Shown {
             text: journals_text(alloc, journals, &[])?,
-            whole: true,
+            end: RunEnd::Whole,
         }),
-        [section] => Ok(show_run(alloc, section, journals)?),
+        [section] => Ok(show_run(alloc, section, journals, salt)?),
         _ => unreachable!(),
     }
 }

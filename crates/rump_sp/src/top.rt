@@ -23,9 +23,9 @@ use std::convert::AsStr;
 /// exit status.
 ///
 /// `bench -r` reads a script from `input`, runs it, and writes the rows of its lines to `out`, and
-/// with `-j` the journals behind them. `stdio` serves one connection over `input` and `out`. What
-/// keeps it from its end is told in one line on `err`, whose own faults are passed over. The first
-/// cause decides.
+/// with `-j` the journals behind them; it draws a salt for each exec. `stdio` serves one connection
+/// over `input` and `out`. What keeps it from its end is told in one line on `err`, whose own
+/// faults are passed over. The first cause decides.
 pub fn rump_main<W: AsStr, S: Salt, I: Source, O: Sink, E: Sink>(
     alloc: Global,
     words: &[W],
@@ -50,9 +50,7 @@ pub fn rump_main<W: AsStr, S: Salt, I: Source, O: Sink, E: Sink>(
         × Tells (E.faults err.old) (E.faults err.new) (E.held err.old) (E.held err.new)
         (told_of failure) }
 
-    // What a script's guests do, and what is written of it; by now it takes no salt.
-    ensures no_salt_needed { (journals : Bool)
-        → AsksFor (map W.text words.now) (Asked.Bench journals) → result ≢ 71 }
+    // What a script's guests do, and what is written of it.
     ensures script { (journals : Bool)
         → AsksFor (map W.text words.now) (Asked.Bench journals) → result ≡ 65
         → TellsFault (I.left input.old)
@@ -88,19 +86,18 @@ pub fn rump_main<W: AsStr, S: Salt, I: Source, O: Sink, E: Sink>(
         × Tells (E.faults err.old) (E.faults err.new) (E.held err.old) (E.held err.new)
         (end_message end) }
 
-    // Where the words are wrong, nothing is read or written.
+    // Where the words are wrong, nothing is drawn, read or written.
     ensures wrong { asked_of (map W.text words.now) ≡ None → ((result ≡ 64) ⊎ (result ≡ 75))
-        × (input.new ≡ input.old) × (out.new ≡ out.old) }
+        × (input.new ≡ input.old) × (out.new ≡ out.old) × (salt.new ≡ salt.old) }
 
-    // What stays: only a served connection draws a salt.
-    ensures salt { (AsksFor (map W.text words.now) Asked.Stdio → ⊥) → salt.new ≡ salt.old }
+    // What stays.
     ensures input_open { I.is_done input.new ≡ false }
     ensures out_open { O.is_done out.new ≡ false }
     ensures err_open { E.is_done err.new ≡ false }
 {
     match read_words(alloc, words) {
         Ok(Some(Asked::Stdio)) => stdio_main(alloc, input, salt, out, err),
-        Ok(Some(Asked::Bench { journals })) => bench_main(alloc, journals, input, out, err),
+        Ok(Some(Asked::Bench { journals })) => bench_main(alloc, journals, salt, input, out, err),
         Ok(None) => fail(err, Failure::Usage),
         Err(NoMemory) => fail(err, Failure::NoMemory),
     }

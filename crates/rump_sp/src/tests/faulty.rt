@@ -104,7 +104,6 @@ fn lines_that_dont_run_yet(rt: HostRuntime) -> Result<(), Fail> {
 #[test]
 fn calls_that_dont_run_yet(rt: HostRuntime) -> Result<(), Fail> {
     let lines = [
-        "exec",
         "join",
         "pipe",
         "socket local stream",

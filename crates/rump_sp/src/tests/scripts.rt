@@ -26,6 +26,10 @@ const FIRST: &str = "guest a\ngetpid\nclose 3\n";
 const BAD_READ: &str = "guest a\nopen \"/f\" O_RDWR|O_CREAT\nwrite 0 \"hello\"\nlseek 0 0 set\n\
 read 0 bad 5\nread 0 5\n";
 
+/// An exec keeps the descriptors whose flag is clear.
+const EXEC: &str = "guest a\nopen \"/f\" O_RDWR|O_CREAT\n\
+open \"/g\" O_RDWR|O_CREAT|O_CLOEXEC\nexec\nclose 1\nclose 0\n";
+
 const BAD_WRITE: &str = "guest a\nopen \"/f\" O_RDWR|O_CREAT\nwrite 0 bad 5\nfstat 0\n";
 
 #[test]
@@ -93,6 +97,15 @@ journal rump\n0 0/1 0 attach = 2\n1 0/2 2 open \"/f\" O_RDWR|O_CREAT = 0\n\
 2 0/3 2 write 0 \"hello\" = 5\n3 0/4 2 lseek 0 0 set = 0\n\
 4 0/5 2 read 0 5 = 5 \"hello\"\n5 0/6 2 read 0 5 = 0 \"\"\n\
 6 end/0 2 exit = 0\njournal host\n",
+        ),
+        (
+            EXEC,
+            "a.1 rump 1 open \"/f\" O_RDWR|O_CREAT = 0\n\
+a.2 rump 2 open \"/g\" O_RDWR|O_CREAT|O_CLOEXEC = 1\na.3 rump 3 exec = 0\n\
+a.4 rump 4 close 1 = -1 EBADF\na.5 rump 5 close 0 = 0\n\
+journal rump\n0 0/1 0 attach = 2\n1 0/2 2 open \"/f\" O_RDWR|O_CREAT = 0\n\
+2 0/3 2 open \"/g\" O_RDWR|O_CREAT|O_CLOEXEC = 1\n3 1/1 2 exec = 0\n\
+4 1/2 2 close 1 = -1 EBADF\n5 1/3 2 close 0 = 0\n6 end/1 2 exit = 0\njournal host\n",
         ),
         (
             BAD_WRITE,

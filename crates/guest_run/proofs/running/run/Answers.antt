@@ -1,33 +1,36 @@
 use Rattle.std.proofs.Common.{List, subst, sym, ◌∙◌}
 use Rattle.sp_frames.specs.Grammar.{IsName}
 use Rattle.kern_model.specs.declared.journal.Entry.{Entry}
-use Rattle.guest_run.specs.Guest.{process_of}
+use Rattle.guest_run.specs.Guest.{Key, process_of, first_key, last_key}
 use Rattle.guest_run.specs.Run.{AreTold}
 use Rattle.guest_run.proofs.NameLaws.{name_is}
-use Rattle.guest_run.proofs.RunLaws.{has_ended, is_left}
+use Rattle.guest_run.proofs.RunLaws.{is_over}
 use Rattle.guest_run.proofs.running.run.Goals as goal
-use Rattle.guest_run.proofs.running.run.Goals.{then-whole, else-whole}
 
 pub greeted-requires : goal.greeted-requires
-greeted-requires c =
+greeted-requires g c =
     subst IsName (sym (c.in_ok-name.ensures ∙ c.slice.ensures.value)) (name_is c.args.section.now.name c.requires.sound.named c.slice.ensures.fits)
 
-pub returns : goal.returns
-returns c =
+pub tell_all-requires-clause-name : goal.tell_all-requires-clause-name
+tell_all-requires-clause-name g c = name_is c.args.section.now.name c.requires.sound.named c.slice.ensures.fits
+
+pub returns-clause-run : goal.returns-clause-run
+returns-clause-run g c =
     let begun = c.in_ok-joined.ensures in
     let pid = process_of begun.attach in
     let section = c.args.section.now in
-    let told = c.in_ok-whole.ensures.told pid begun.rest in
+    let to = c.in_ok-end.ensures.told pid begun.rest in
     let now = c.tell_all.new.joined in
+    let rows = c.tell_all.new.rows in
+    let first = subst (λ (key : Key). AreTold section.name pid 1 key c.in_ok-joined.joined.hub.journal section.lines
+    (record { rows = rows; end = c.in_ok-end.end; conn = to.conn; journal = now.hub.journal })) begun.first to.told in
     record {
       attach = begun.attach;
+      conn = to.conn;
       journal = now.hub.journal;
       attached = begun.made;
-      told = subst (λ (before : List Entry). AreTold section.name pid 1 before section.lines (record { rows = c.tell_all.new.rows; whole = c.in_ok-whole.whole; journal = now.hub.journal }))
-          begun.journal told;
-      ended = elim c.if-whole.branch [
-        | then-whole w ↦ has_ended pid c.in_ok-whole.whole now w.end.new.self c.if-whole.joined w.if-whole.true
-            (w.end.ensures pid (c.in_ok-whole.ensures.rest w.if-whole.true pid begun.rest).0 (c.in_ok-whole.ensures.rest w.if-whole.true pid begun.rest).1) w.joined-is
-        | else-whole w ↦ is_left pid c.in_ok-whole.whole now c.if-whole.joined w.if-whole.false w.joined-is
-      ];
+      told = subst (λ (before : List Entry). AreTold section.name pid 1 first_key before section.lines
+          (record { rows = rows; end = c.in_ok-end.end; conn = to.conn; journal = now.hub.journal })) begun.journal first;
+      ended = is_over c.in_ok-end.end to.conn now.conn pid now.hub.journal c.finish.new.joined.hub.journal to.last
+          (c.finish.ensures pid (λ whole. c.in_ok-end.ensures.rest whole pid begun.rest));
     }

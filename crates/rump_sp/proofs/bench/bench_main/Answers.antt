@@ -3,6 +3,7 @@ use Rattle.guest_language.specs.Script.{whole_fault}
 use Rattle.guest_language.specs.declared.fault.ScriptKind.TheVariants as kind
 use Rattle.rump_sp.specs.declared.failure.Failure.TheVariants as failure
 use Rattle.rump_sp.specs.Failure.{Tells}
+use Rattle.rump_sp.specs.Top.{is_whole}
 use Rattle.rump_sp.proofs.TopLaws.{tells_long, prints_nothing, prints_whole, status_in}
 use Rattle.rump_sp.proofs.bench.bench_main.Goals as goal
 
@@ -52,14 +53,26 @@ returns-in-Err-put_all-clause-status g c = status_in failure.Output _ c.fail-in-
 pub returns-in-Err-put_all-clause-told : goal.returns-in-Err-put_all-clause-told
 returns-in-Err-put_all-clause-told g c = (Some failure.Output, c.fail-in-Err-put_all.ensures.status, c.fail-in-Err-put_all.ensures.told)
 
+pub returns-in-Refused-clause-status : goal.returns-in-Refused-clause-status
+returns-in-Refused-clause-status g c = status_in failure.NoMemory _ c.fail-in-Refused.ensures.status
+
+pub returns-in-Refused-clause-told : goal.returns-in-Refused-clause-told
+returns-in-Refused-clause-told g c = (Some failure.NoMemory, c.fail-in-Refused.ensures.status, c.fail-in-Refused.ensures.told)
+
+pub returns-in-Refused-clause-other : goal.returns-in-Refused-clause-other
+returns-in-Refused-clause-other g c = λ _.
+    let shows = rw c.slice.ensures.value at c.in-Ok-show.ensures.shows in
+    let appends = rw c.slice-2.ensures.value at c.in-Ok-put_all.ensures.all in
+    prints_whole c.args.journals (is_whole c.in-Ok-show.shown.end) _ _ _ c.in-Ok.text c.in-Ok-show.shown.text c.in-Ok.ensures.all shows appends
+
 pub returns-clause-status : goal.returns-clause-status
-returns-clause-status g c = status_in failure.NoMemory _ c.fail-in-Ok-2.ensures.status
+returns-clause-status g c = status_in failure.Salt _ c.fail-in-NoSalt.ensures.status
 
 pub returns-clause-told : goal.returns-clause-told
-returns-clause-told g c = (Some failure.NoMemory, c.fail-in-Ok-2.ensures.status, c.fail-in-Ok-2.ensures.told)
+returns-clause-told g c = (Some failure.Salt, c.fail-in-NoSalt.ensures.status, c.fail-in-NoSalt.ensures.told)
 
 pub returns-clause-other : goal.returns-clause-other
 returns-clause-other g c = λ _.
     let shows = rw c.slice.ensures.value at c.in-Ok-show.ensures.shows in
-    let appends = rw c.slice-2.ensures.value at c.in-Ok-2.ensures.all in
-    prints_whole c.args.journals c.in-Ok-show.shown.whole _ _ _ c.in-Ok.text c.in-Ok-show.shown.text c.in-Ok.ensures.all shows appends
+    let appends = rw c.slice-2.ensures.value at c.in-Ok-put_all.ensures.all in
+    prints_whole c.args.journals (is_whole c.in-Ok-show.shown.end) _ _ _ c.in-Ok.text c.in-Ok-show.shown.text c.in-Ok.ensures.all shows appends

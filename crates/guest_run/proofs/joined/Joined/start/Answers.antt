@@ -3,4 +3,4 @@ use Rattle.guest_run.proofs.JoinedLaws.{client_played_by}
 use Rattle.guest_run.proofs.joined.Joined.start.Goals as goal
 
 pub returns-in_default : goal.returns-in_default
-returns-in_default c = λ caller. record { client = client_played_by _ _ _ _ (c.start.ensures caller) c.in_default.not-NoMemory; server = refl }
+returns-in_default c = λ caller. record { client = client_played_by _ _ _ _ (c.start.ensures caller) c.in_default.not-NoMemory; server = refl; conn = refl }
