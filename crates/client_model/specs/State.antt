@@ -1,5 +1,5 @@
 -- What the client's machine holds.
-use Rattle.std.specs.Prelude.{ℕ, Bool, true, false, List, [], ◌∷◌, Option, None}
+use Rattle.std.specs.Prelude.{ℕ, Bool, true, false, List, [], ◌∷◌, Option, None, Some}
 use Rattle.std.specs.Ordering.{nat_cmp}
 use Rattle.std.specs.FinMap.{FinMap, empty, insert}
 use Rattle.sp_copy.specs.declared.delivery.Delivery.{Delivery}
@@ -13,6 +13,7 @@ use Rattle.client_model.specs.declared.event.Hello.{Hello}
 use Rattle.client_model.specs.declared.event.Hello.TheVariants as hello
 use Rattle.client_model.specs.declared.event.Reply.{Reply}
 use Rattle.client_model.specs.declared.request.Ending.{Ending}
+use Rattle.client_model.specs.declared.request.Ending.TheVariants as ending
 use Rattle.client_model.specs.declared.request.Request.{Request}
 use Rattle.client_model.specs.declared.request.Request.TheVariants as request
 use Rattle.client_model.specs.declared.request.Response.{Response}
@@ -83,6 +84,17 @@ fresh_client version hello = record {
   requests = insert empty 1 (fresh_request (asked_by hello) []);
   queue = hello_frame hello ∷ [];
   ending = None;
+}
+
+-- a client without requests, whose link is gone
+abbrev pub over_client : Version → Client
+over_client version = record {
+  version = version;
+  ready = false;
+  last = 0;
+  requests = empty;
+  queue = [];
+  ending = Some ending.Gone;
 }
 
 -- the client with another request of a number

@@ -14,3 +14,4 @@ pub mod Sound
 pub mod Inherit
 pub mod Closing
 pub mod Task
+pub mod Still

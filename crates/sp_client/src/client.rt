@@ -5,7 +5,7 @@ ghost use Rattle.client_model.specs.Machine.{Plays, played};
 ghost use Rattle.client_model.specs.Requests.{closed, collected, highest_number, is_busy, start_now};
 ghost use Rattle.client_model.specs.Run.{has_response, is_answered, is_still};
 ghost use Rattle.client_model.specs.State as state;
-ghost use Rattle.client_model.specs.State.{HasName, fresh_client, request_frame};
+ghost use Rattle.client_model.specs.State.{HasName, fresh_client, over_client, request_frame};
 ghost use Rattle.client_model.specs.declared.event.Event.TheVariants as event;
 ghost use Rattle.client_model.specs.declared.event.Reply.TheVariants as reply;
 ghost use Rattle.sp_base.specs.declared.names.Caller.{Caller};
@@ -112,6 +112,21 @@ impl ClientCore {
             queue,
             ending: None,
         })
+    }
+
+    /// A client without requests whose link is gone; takes no memory.
+    pub fn over(alloc: Global) -> ClientCore
+        ensures { result ≡ over_client Four }
+    {
+        ClientCore {
+            alloc,
+            version: Version::Four,
+            ready: false,
+            last: 0,
+            requests: Table::new(alloc),
+            queue: KeptQueue::none(alloc),
+            ending: Some(Ending::Gone),
+        }
     }
 
     /// Whether no frame is queued and no open request has its answer; takes no memory.

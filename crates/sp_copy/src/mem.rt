@@ -9,7 +9,7 @@ use crate::part::{Part, ROOT_BASE, Right};
 use crate::part_faults::fault_of;
 use crate::reading::{given, gives, look_in};
 use crate::writing::write_in;
-use sp_base::{Items, Need, Octets};
+use sp_base::{Items, Need, NoMemory, Octets};
 use std::alloc::Global;
 use std::marker::Model;
 
@@ -34,6 +34,17 @@ impl Model for Mem {
 
 /// The text that every memory has.
 const ROOT_TEXT: &[u8] = b"/\0";
+
+/// A copy of parts. The only error is want of memory.
+fn copy_parts(alloc: Global, parts: &[Part]) -> Result<Vec<Part>, NoMemory>
+    ensures { IfOk result (λ copies. copies.items ≡ parts.now) }
+{
+    let mut copies = Vec::with_capacity(alloc, parts.len())?;
+    for part in parts {
+        copies.push(part.copy(alloc)?)?;
+    }
+    Ok(copies)
+}
 
 impl Mem {
     /// The memory without parts; takes no memory.
@@ -61,6 +72,14 @@ impl Mem {
         if let Some(fault) = fault_of(parts.as_slice()) {
             return Err(fault);
         }
+        Ok(Mem { alloc, parts })
+    }
+
+    /// A copy of the memory. The only error is want of memory.
+    pub fn copy(&self, alloc: Global) -> Result<Mem, NoMemory>
+        ensures { IfOk result (λ mem. mem ≡ self.now) }
+    {
+        let parts = copy_parts(alloc, self.parts.as_slice())?;
         Ok(Mem { alloc, parts })
     }
 

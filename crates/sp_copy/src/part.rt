@@ -1,7 +1,8 @@
-ghost use Rattle.std.specs.Prelude.{◌≡◌};
+ghost use Rattle.std.specs.Prelude.{◌≡◌, IfOk};
 ghost use Rattle.sp_copy.specs.Parts.{can_read, can_write, share_address};
 
-use sp_base::Octets;
+use sp_base::{NoMemory, Octets};
+use std::alloc::Global;
 
 /// What a call may do with a part of memory.
 #[derive(Clone, Copy, Debug, PartialEq, Eq)]
@@ -57,6 +58,18 @@ impl Right {
 }
 
 impl Part {
+    /// A copy of the part. The only error is want of memory.
+    pub fn copy(&self, alloc: Global) -> Result<Part, NoMemory>
+        ensures { IfOk result (λ part. part ≡ self.now) }
+    {
+        let bytes = Octets::of(alloc, self.bytes.slice())?;
+        Ok(Part {
+            base: self.base,
+            right: self.right,
+            bytes,
+        })
+    }
+
     /// Whether some address is in both parts. A part without bytes has no address.
     pub fn shares(&self, other: &Part) -> bool
         ensures { result ≡ share_address self.now other.now }

@@ -124,6 +124,10 @@ fn reads_at_edges(rt: HostRuntime) -> Result<(), Fail> {
     }
     let copy = mem.read(rt.alloc(), &Need::Bytes(9000, 4))?;
     assert_eq!(rt; copy.slice(), b"text".as_slice());
+    let twin = mem.copy(rt.alloc())?;
+    for (need, want) in READS {
+        assert_eq!(rt; twin.look(&need), want.map(|text| text.as_bytes()));
+    }
     let empty = Mem::none(rt.alloc());
     assert_eq!(rt; empty.look(&Need::Text(8, 2)), Ok(b"/".as_slice()));
     Ok(())

@@ -27,6 +27,7 @@ ghost use Rattle.hub_model.specs.declared.state.OpenCall.TheVariants as task;
 
 mod handing;
 mod perform;
+mod still;
 
 use crate::{frames, kernel};
 use hub_model::{Condition, OpenCall};

@@ -5,6 +5,7 @@ ghost use Rattle.sp_frames.specs.declared.frame.Frame.{Frame};
 ghost use Rattle.sp_hub.specs.AtOnce.{AnswersAtOnce};
 ghost use Rattle.hub_model.specs.Machine.{Plays, played};
 ghost use Rattle.hub_model.specs.State.{fresh_machine};
+ghost use Rattle.hub_model.specs.Still.{is_idle};
 ghost use Rattle.hub_model.specs.Task.{IsLowest, open_calls};
 
 use crate::machine::Core;
@@ -195,6 +196,13 @@ impl Hub {
         ensures { IsLowest (open_calls self.now no) above result }
     {
         self.core.lowest_task(no, above)
+    }
+
+    /// Whether no frame is queued, and no call is still to be performed; this takes no memory.
+    pub fn is_idle(&self) -> bool
+        ensures { result ≡ is_idle self.now }
+    {
+        self.core.is_idle()
     }
 
     /// An event happens; the answer is that of the method of the event's name.

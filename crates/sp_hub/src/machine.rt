@@ -1,6 +1,7 @@
 ghost use Rattle.std.specs.Prelude.{◌≡◌, ◌≢◌, false, true, IfOk, IsSome, IsTrue, OnErr, OnOk, Some};
 ghost use Rattle.std.specs.Option.{option_copied};
 ghost use Rattle.std.specs.FinMap as map;
+ghost use Rattle.std.specs.List.{list_any};
 ghost use Rattle.kern_model.specs.Journal.{state_after};
 ghost use Rattle.sp_frames.specs.Grammar.{Fits};
 ghost use Rattle.sp_frames.specs.declared.frame.Frame as frame;
@@ -12,6 +13,7 @@ ghost use Rattle.hub_model.specs.Machine.{Plays, played, any_speaks, open_new, i
 ghost use Rattle.hub_model.specs.Sound.{IsSound};
 ghost use Rattle.hub_model.specs.State as state;
 ghost use Rattle.hub_model.specs.State.{fresh_machine, speaks};
+ghost use Rattle.hub_model.specs.Still.{has_work, is_idle};
 ghost use Rattle.hub_model.specs.Task.{IsLowest, open_calls};
 ghost use Rattle.hub_model.specs.declared.event.Event.TheVariants as event;
 ghost use Rattle.hub_model.specs.declared.event.Reply.TheVariants as reply;
@@ -276,6 +278,22 @@ impl Core {
         self.connections
             .values()
             .any(|connection| connection.speaks())
+    }
+
+    /// Whether some connection has something to do.
+    fn has_work(&self) -> bool
+        ensures { result ≡ list_any has_work (map.values self.now.connections) }
+    {
+        self.connections
+            .values()
+            .any(|connection| connection.has_work())
+    }
+
+    /// Whether no frame is queued, and no call is still to be performed.
+    pub(crate) fn is_idle(&self) -> bool
+        ensures { result ≡ is_idle self.now }
+    {
+        !self.has_work()
     }
 
     /// The server is to take nothing more.

@@ -16,7 +16,8 @@ use Rattle.client_model.specs.declared.event.Reply.{Reply as ClientReply}
 use Rattle.world_model.specs.Log.{Ask, IsIn, asked, asked_if, asks, is_key, tells, told}
 use Rattle.world_model.specs.Once.{IsFine, lost_on}
 use Rattle.world_model.specs.Run.{History, Item}
-use Rattle.world_model.specs.State.{HostCall, Link, faults_of}
+use Rattle.world_model.specs.State.{Link, faults_of}
+use Rattle.world_model.specs.declared.host.HostCall.{HostCall}
 use Rattle.world_model.specs.declared.event.Event.{Event}
 use Rattle.world_model.specs.declared.event.Event.TheVariants as event
 use Rattle.world_model.specs.declared.event.Reply.{Reply}

@@ -21,8 +21,9 @@ use Rattle.hub_model.specs.Frames.{answer_at}
 use Rattle.hub_model.specs.Journal.{nothing_read}
 use Rattle.hub_model.specs.Requests.{no_process}
 use Rattle.link_model.specs.Direct.{pieces_of, reads}
-use Rattle.world_model.specs.State.{HostCall, Played, World}
+use Rattle.world_model.specs.State.{Played, World}
 use Rattle.world_model.specs.declared.event.Reply.TheVariants as reply
+use Rattle.world_model.specs.declared.host.HostCall.{HostCall}
 
 -- what an operation reads of its caller's memory: only calls read
 abbrev pub read_for : Op → List Part → Ins
@@ -83,7 +84,10 @@ seen_at place e mem = deliver (pieces_of e.outcome.outs) (answer_at e.outcome pl
 abbrev pub host_by : World → ℕ → Caller → Pid → Op → List Part → Option Entry → Played
 host_by w guest caller pid op mem None = (
   reply.HostWaits mem,
-  record w { waiting = record { guest = guest; caller = caller; pid = pid; op = op; ins = read_for op mem } ∷ without_call w.waiting guest caller op },
+  record w {
+    waiting = without_call w.waiting guest caller op
+        ++ record { guest = guest; caller = caller; pid = pid; op = op; ins = read_for op mem } ∷ [];
+  },
 )
 host_by w guest caller pid op mem (Some e) = (
   reply.Hosted (seen_at (length w.host) e mem).0 (seen_at (length w.host) e mem).1,

@@ -2,17 +2,14 @@
 use Rattle.std.specs.Prelude.{ℕ, List, [], Option, None, Some}
 use Rattle.std.specs.Ordering.{nat_cmp}
 use Rattle.std.specs.FinMap.{FinMap, empty, insert}
-use Rattle.sp_base.specs.declared.names.Caller.{Caller}
 use Rattle.sp_base.specs.declared.names.ConnNo.{ConnNo}
-use Rattle.sp_base.specs.declared.names.Pid.{Pid}
 use Rattle.sp_frames.specs.declared.frame.Frame.{Frame}
 use Rattle.sp_frames.specs.declared.version.Version.{Version}
 use Rattle.kern_model.specs.declared.journal.Entry.{Entry}
-use Rattle.kern_model.specs.declared.operation.Ins.{Ins}
-use Rattle.kern_model.specs.declared.operation.Op.{Op}
 use Rattle.hub_model.specs.State.{Machine, fresh_machine}
 use Rattle.client_model.specs.State.{Client}
 use Rattle.world_model.specs.declared.event.Reply.{Reply}
+use Rattle.world_model.specs.declared.host.HostCall.{HostCall}
 
 -- what is between a client and the server: the frames under way to the server, and to the client, the oldest first; and how often the
 -- link broke
@@ -25,16 +22,8 @@ pub record Link : Type 0 where
 abbrev pub fresh_link : Link
 fresh_link = record { up = []; down = []; faults = 0 }
 
--- a call of the host's kernel that waits: the guest and the caller that made it, the process, what it asks for, and what it read
-pub record HostCall : Type 0 where
-  pub guest : ℕ
-  pub caller : Caller
-  pub pid : Pid
-  pub op : Op
-  pub ins : Ins
-
 -- the server with the rump kernel's journal; the clients of the connections that are there, by number; the links of all that ever opened,
--- by number; the journal of the host's kernel; how many entries of it each guest has; and the host calls that wait, the newest first
+-- by number; the journal of the host's kernel; how many entries of it each guest has; and the host calls that wait, the oldest first
 pub record World : Type 0 where
   pub rump : Machine
   pub clients : FinMap nat_cmp Client

@@ -3,7 +3,9 @@
 #![tactic(auto)]
 
 mod event;
+mod host;
 mod laws;
 
 pub use event::{Event, Reply};
+pub use host::HostCall;
 pub use laws::world_law;
