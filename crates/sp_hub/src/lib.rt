@@ -12,8 +12,6 @@ mod kernel;
 mod machine;
 mod requests;
 mod telling;
-#[cfg(test)]
-mod tests;
 mod verdict;
 mod work;
 
