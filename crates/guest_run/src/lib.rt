@@ -9,8 +9,6 @@ mod outside;
 mod rows;
 mod running;
 mod steps;
-#[cfg(test)]
-mod tests;
 mod wire;
 
 pub use calling::Called;
