@@ -11,9 +11,6 @@ use sp_frames::{Frame, Framer, encode};
 use sp_hub::{Finish, Hub, Reply as ServerReply};
 use std::alloc::Global;
 
-/// The name of the guest, and of each next program.
-const NAME: &[u8] = b"vi";
-
 /// No call has more steps.
 const MOST_STEPS: u32 = 8;
 
@@ -69,7 +66,7 @@ impl Talk {
         let mut talk = Talk {
             alloc,
             hub: Hub::fresh(alloc)?,
-            client: ClientCore::fresh(alloc, Hello::Guest(Octets::of(alloc, NAME)?))?,
+            client: ClientCore::fresh(alloc, Hello::Guest(Octets::of(alloc, b"vi")?))?,
             conn: ConnNo(0),
             up: Framer::fresh(alloc),
             down: Framer::fresh(alloc),
@@ -145,7 +142,7 @@ impl Talk {
             return Err(Wrong("no connection is left"));
         };
         self.conn = ConnNo(next);
-        let name = Octets::of(self.alloc, NAME)?;
+        let name = Octets::of(self.alloc, b"vi")?;
         self.client = ClientCore::fresh(self.alloc, Hello::Image(cookie, name))?;
         let Some(place) = self.greet()? else {
             return Err(Wrong("the exec has no place"));
