@@ -1,0 +1,16 @@
+pub mod HostLaws
+pub mod StepLaws
+pub mod StillLaws
+pub mod Wants
+pub mod Moving
+pub mod Ways
+pub mod Opened
+pub mod Keeping
+pub mod Telling
+pub mod There
+pub mod Asked
+pub mod Works
+pub mod Connects
+pub mod Unchanged
+pub mod Versions
+pub mod Breaks
